@@ -1,0 +1,6 @@
+pub mod Saturation
+pub mod Tiles
+pub mod Lines
+pub mod Outside
+pub mod Answers
+pub mod Growing

@@ -1,0 +1,18 @@
+//! What every crate of the machine stands on: its numbers, its tiles, and the store and the sink outside of it.
+#![tactic(auto)]
+
+mod memory;
+mod number;
+mod sink;
+mod store;
+mod tiles;
+mod value;
+mod values;
+
+pub use memory::NoMemory;
+pub use number::push_number;
+pub use sink::{Sink, SinkError};
+pub use store::{Store, StoreError};
+pub use tiles::{Dir, Shape, Tile, TileKind, Tiles};
+pub use value::Value;
+pub use values::Values;

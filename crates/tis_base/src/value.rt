@@ -1,0 +1,62 @@
+//! The numbers that the machine holds.
+ghost use Rattle.std.specs.Prelude.{◌≡◌, ◌↔◌, IsSome, IfSome};
+ghost use Rattle.tis_base.specs.Saturation.{sat, IsValue};
+
+use std::marker::Model;
+
+/// A number from -999 to 999, the range of the TIS-100's registers and ports.
+#[derive(Clone, Copy, Debug, PartialEq, Eq, Hash, PartialOrd, Ord)]
+pub struct Value {
+    number: i16,
+}
+
+impl Model for Value {
+    ghost use Rattle.std.specs.Prelude.{ℤ};
+    ghost use Rattle.tis_base.specs.Saturation.{IsValue};
+
+    ghost Value = { ℤ };
+
+    ghost view = { λ v. v.number };
+
+    ghost invariant = { λ v. IsValue v.number };
+
+    ghost inverse = { λ n. record { number = n } };
+}
+
+impl Value {
+    /// The least value.
+    pub const LEAST: i64 = -999;
+
+    /// The greatest value.
+    pub const GREATEST: i64 = 999;
+
+    /// The value that is this number, or None where the number is outside of the range.
+    pub fn new(number: i64) -> Option<Value>
+        ensures held { IsSome result ↔ IsValue number }
+        ensures value { IfSome result (λ v. v ≡ number) }
+    {
+        if number < Self::LEAST || Self::GREATEST < number {
+            return None;
+        }
+        Some(Value {
+            number: number as i16,
+        })
+    }
+
+    /// The value that is nearest to this number.
+    pub fn clamp(number: i64) -> Value
+        ensures { result ≡ sat number }
+    {
+        Value {
+            number: number.clamp(Self::LEAST, Self::GREATEST) as i16,
+        }
+    }
+
+    /// The number.
+    pub fn get(self) -> i64
+        ensures number { result ≡ self }
+        ensures held { IsValue self }
+    {
+        i64::from(self.number)
+    }
+}

@@ -1,0 +1,64 @@
+//! A list of values that grows at its end.
+ghost use Rattle.std.specs.Prelude.{◌≡◌, ◌<◌, [], ◌∷◌, ◌++◌, length, slice_get, OnOk, OnErr, Some, IsTrue, ◌↔◌};
+
+use crate::memory::NoMemory;
+use crate::value::Value;
+use std::alloc::Global;
+use std::marker::Model;
+
+/// A list of values, first to last, and how many more fit without taking memory.
+#[derive(Debug, Drop)]
+pub struct Values {
+    values: Vec<Value>,
+}
+
+impl Model for Values {
+    ghost use Rattle.std.specs.Prelude.{◌-◌, vec_len, vec_capacity};
+    ghost use Rattle.tis_base.specs.Growing.{Growing};
+
+    ghost Value = { Growing };
+
+    ghost view = { λ v. record { items = v.values.items; spare = vec_capacity v.values - vec_len v.values } };
+}
+
+impl Values {
+    /// The empty list. It takes no memory.
+    pub fn new(alloc: Global) -> Values
+        ensures { result.items ≡ [] }
+    {
+        Values {
+            values: Vec::new(alloc),
+        }
+    }
+
+    /// One more value at the end. Want of memory leaves the list as it was.
+    pub fn push(&mut self, value: Value) -> Result<(), NoMemory>
+        ensures ok { OnOk result (self.new.items ≡ self.old.items ++ value ∷ []) }
+        ensures err { OnErr result (self.new.items ≡ self.old.items) }
+    {
+        self.values.push(value)?;
+        Ok(())
+    }
+
+    /// How many values the list has.
+    pub fn len(&self) -> usize
+        ensures { result ≡ length self.now.items }
+    {
+        self.values.len()
+    }
+
+    /// Whether the list has no value.
+    pub fn is_empty(&self) -> bool
+        ensures { IsTrue result ↔ (self.now.items ≡ []) }
+    {
+        self.values.is_empty()
+    }
+
+    /// The value at an index from 0 on.
+    pub fn at(&self, index: usize) -> Value
+        requires { index < length self.now.items }
+        ensures { slice_get self.now.items index ≡ Some result }
+    {
+        self.values[index]
+    }
+}
