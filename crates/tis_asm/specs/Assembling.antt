@@ -1,0 +1,97 @@
+-- The program that a text spells, line by line over the whole text. So far a line is blank or a MOV between ports in capitals, with a `!` in front or none.
+use Rattle.std.specs.Prelude.{ℕ, ◌+◌, Bool, true, false, ◌||◌, List, [], ◌∷◌, ◌++◌, length, drop, filter, Option, Some, None, option_map, option_and_then, Result, Ok, Err, codes, ◌==◌, nat_lt, if◌then◌else◌}
+use Rattle.std.specs.List.{list_all}
+use Rattle.std.specs.Str.{bytes_eq}
+use Rattle.tis_base.specs.declared.tiles.Dir.{Dir}
+use Rattle.tis_base.specs.declared.tiles.Dir.TheVariants.{Left, Right, Up, Down}
+use Rattle.tis_base.specs.Lines.{text_lines, pieces_where}
+use Rattle.tis_asm.specs.declared.instr.Source.{Source}
+use Rattle.tis_asm.specs.declared.instr.Source.TheVariants as from
+use Rattle.tis_asm.specs.declared.instr.Dest.{Dest}
+use Rattle.tis_asm.specs.declared.instr.Dest.TheVariants as to
+use Rattle.tis_asm.specs.declared.instr.Instr.{Instr}
+use Rattle.tis_asm.specs.declared.instr.Instr.TheVariants.{Mov}
+use Rattle.tis_asm.specs.declared.program.Line.{Line}
+
+-- why a text is no program
+pub data AsmRefusal : Type 0 where
+  TooManyLines : AsmRefusal
+  BadLine : (line : ℕ) → AsmRefusal
+
+-- a blank, or a comma, which counts as one
+abbrev pub is_gap : ℕ → Bool
+is_gap byte = byte == 32 || byte == 9 || byte == 44
+
+abbrev pub is_filled : List ℕ → Bool
+is_filled [] = false
+is_filled (byte ∷ bytes) = true
+
+-- the words of a line: what stands between the gaps
+abbrev pub words_of : List ℕ → List (List ℕ)
+words_of line = filter is_filled (pieces_where is_gap line)
+
+abbrev pub dir_of_word : List ℕ → Option Dir
+dir_of_word word =
+    if bytes_eq word (codes "LEFT") then Some Left else
+    (if bytes_eq word (codes "RIGHT") then Some Right else
+    (if bytes_eq word (codes "UP") then Some Up else
+    (if bytes_eq word (codes "DOWN") then Some Down else None)))
+
+abbrev pub source_of_word : List ℕ → Option Source
+source_of_word word = option_map (λ dir. from.Port dir) (dir_of_word word)
+
+abbrev pub dest_of_word : List ℕ → Option Dest
+dest_of_word word = option_map (λ dir. to.Port dir) (dir_of_word word)
+
+-- the instruction that these words are
+abbrev pub instr_of_words : List (List ℕ) → Option Instr
+instr_of_words (name ∷ source ∷ dest ∷ []) =
+    if bytes_eq name (codes "MOV") then option_and_then (λ s. option_map (λ d. Mov s d) (dest_of_word dest)) (source_of_word source) else None
+instr_of_words _ = None
+
+-- whether a line begins with `!`, and what stands behind that
+abbrev pub is_marked : List ℕ → Bool
+is_marked [] = false
+is_marked (byte ∷ bytes) = byte == 33
+
+abbrev pub without_mark : List ℕ → List ℕ
+without_mark line = if is_marked line then drop 1 line else line
+
+-- the instructions of a line, one or none, where it is a line of a program
+abbrev pub instrs_of_words : Bool → List (List ℕ) → Option (List Line)
+instrs_of_words mark [] = Some []
+instrs_of_words mark (word ∷ words) = option_map (λ instr. record { instr = instr; mark = mark } ∷ []) (instr_of_words (word ∷ words))
+
+abbrev pub instrs_of_line : List ℕ → Option (List Line)
+instrs_of_line line = instrs_of_words (is_marked line) (words_of (without_mark line))
+
+abbrev pub is_blank : List ℕ → Bool
+is_blank line = list_all (λ byte. byte == 32 || byte == 9) line
+
+-- one more line in front, unless it is blank and no line follows
+abbrev pub onto_code : List ℕ → List (List ℕ) → List (List ℕ)
+onto_code line [] = if is_blank line then [] else line ∷ []
+onto_code line (next ∷ lines) = line ∷ next ∷ lines
+
+-- without the blank lines at the end
+abbrev pub without_blank_end : List (List ℕ) → List (List ℕ)
+without_blank_end [] = []
+without_blank_end (line ∷ lines) = onto_code line (without_blank_end lines)
+
+abbrev pub with_line : ℕ → Option (List Line) → Result (List Line) AsmRefusal → Result (List Line) AsmRefusal
+with_line number None rest = Err (BadLine number)
+with_line number (Some instrs) (Ok program) = Ok (instrs ++ program)
+with_line number (Some instrs) (Err refusal) = Err refusal
+
+-- the instructions of these lines, the first of which has this number
+abbrev pub program_of : ℕ → List (List ℕ) → Result (List Line) AsmRefusal
+program_of number [] = Ok []
+program_of number (line ∷ lines) = with_line number (instrs_of_line line) (program_of (number + 1) lines)
+
+-- the program of these lines: at most fifteen of them, and each is a line of a program
+abbrev pub assembled_lines : List (List ℕ) → Result (List Line) AsmRefusal
+assembled_lines lines = if nat_lt 15 (length (without_blank_end lines)) then Err TooManyLines else program_of 1 (without_blank_end lines)
+
+-- the program of a text
+abbrev pub assembled : List ℕ → Result (List Line) AsmRefusal
+assembled text = assembled_lines (text_lines text)

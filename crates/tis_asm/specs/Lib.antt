@@ -1,0 +1,4 @@
+pub mod Listing
+pub mod Code
+pub mod Assembling
+pub mod Node

@@ -1,0 +1,20 @@
+-- Programs, and one for each tile.
+use Rattle.std.specs.Prelude.{◌≡◌, ◌≢◌, ℕ, ◌≤◌, List, [], length, Some, slice_get, All, get_or}
+use Rattle.tis_base.specs.Tiles.{Board, IsCompute}
+use Rattle.tis_base.specs.declared.tiles.TileKind.TheVariants.{Compute}
+use Rattle.tis_asm.specs.declared.program.Line.{Line}
+
+-- the tiles, and one program for each of them
+pub record Listing : Type 0 where
+  pub tiles : Board
+  pub programs : List (List Line)
+
+-- the program of a tile
+abbrev pub program_at : List (List Line) → ℕ → List Line
+program_at programs tile = get_or programs tile []
+
+-- there is one program for each tile, each has at most fifteen instructions, and only compute tiles have any
+pub record IsListing (listing : Listing) : Type 0 where
+  pub one_each : length listing.programs ≡ length listing.tiles.kinds
+  pub short : (tile : ℕ) → length (program_at listing.programs tile) ≤ 15
+  pub elsewhere : (tile : ℕ) → slice_get listing.tiles.kinds tile ≢ Some Compute → program_at listing.programs tile ≡ []

@@ -1,0 +1,124 @@
+-- One compute node: what it is, and each thing that it can do, by the instruction at its pc.
+use Rattle.std.specs.Prelude.{ℕ, ◌+◌, ℤ, pos, Bool, true, false, List, length, Option, Some, None, option_map, slice_get, nat_lt, if◌then◌else◌}
+use Rattle.tis_base.specs.declared.tiles.Dir.{Dir}
+use Rattle.tis_base.specs.declared.tiles.Dir.TheVariants.{Left, Right, Up, Down}
+use Rattle.tis_asm.specs.declared.instr.Source.{Source}
+use Rattle.tis_asm.specs.declared.instr.Source.TheVariants as from
+use Rattle.tis_asm.specs.declared.instr.Dest.{Dest}
+use Rattle.tis_asm.specs.declared.instr.Dest.TheVariants as to
+use Rattle.tis_asm.specs.declared.instr.Instr.{Instr}
+use Rattle.tis_asm.specs.declared.instr.Instr.TheVariants.{Mov}
+use Rattle.tis_asm.specs.declared.program.Line.{Line}
+
+-- where a value is written to: one port, or the first neighbour that reads
+pub data Toward : Type 0 where
+  One : (dir : Dir) → Toward
+  Any : Toward
+
+-- a node is ready for the instruction at its pc, or it waits until a value that it writes is read
+pub data Mode : Type 0 where
+  Ready : Mode
+  Writing : (value : ℤ) → (toward : Toward) → Mode
+
+-- the number of the instruction, the two registers, the port last used by ANY, and the mode
+pub record Node : Type 0 where
+  pub pc : ℕ
+  pub acc : ℤ
+  pub bak : ℤ
+  pub last : Option Dir
+  pub mode : Mode
+
+-- a node at the start
+abbrev pub fresh : Node
+fresh = record { pc = 0; acc = pos 0; bak = pos 0; last = None; mode = Ready }
+
+abbrev pub is_same_dir : Dir → Dir → Bool
+is_same_dir Left Left = true
+is_same_dir Right Right = true
+is_same_dir Up Up = true
+is_same_dir Down Down = true
+is_same_dir _ _ = false
+
+-- the instruction at a number, where the program has one
+abbrev pub instr_at : List Line → ℕ → Option Instr
+instr_at program pc = option_map (λ line. line.instr) (slice_get program pc)
+
+-- the number of the next instruction: after the last one the first follows
+abbrev pub next_of : List Line → ℕ → ℕ
+next_of program pc = if nat_lt (pc + 1) (length program) then pc + 1 else 0
+
+-- ready, at the next instruction
+abbrev pub goes_on : List Line → Node → Node
+goes_on program node = record node { pc = next_of program node.pc; mode = Ready }
+
+-- ---- local steps
+
+-- whether the instruction, at a node that is ready, needs no port to go on
+abbrev pub is_local : Option Instr → Bool
+is_local None = false
+is_local (Some (Mov (from.Port port) dest)) = false
+
+abbrev pub can_local_in : Mode → Option Instr → Bool
+can_local_in Ready instr = is_local instr
+can_local_in (Writing value toward) instr = false
+
+-- whether the node can make a local step
+abbrev pub can_local : List Line → Node → Bool
+can_local program node = can_local_in node.mode (instr_at program node.pc)
+
+-- what the instruction does without a port
+abbrev pub local_by : Option Instr → List Line → Node → Node
+local_by None program node = node
+local_by (Some (Mov (from.Port port) dest)) program node = node
+
+-- the node after a local step
+abbrev pub local_step : List Line → Node → Node
+local_step program node = local_by (instr_at program node.pc) program node
+
+-- ---- reading from a port
+
+-- whether the instruction reads from this port
+abbrev pub reads_from : Option Instr → Dir → Bool
+reads_from None dir = false
+reads_from (Some (Mov (from.Port port) dest)) dir = is_same_dir port dir
+
+abbrev pub wants_in : Mode → Option Instr → Dir → Bool
+wants_in Ready instr dir = reads_from instr dir
+wants_in (Writing value toward) instr dir = false
+
+-- whether the node waits for a value from this port
+abbrev pub wants : List Line → Node → Dir → Bool
+wants program node dir = wants_in node.mode (instr_at program node.pc) dir
+
+-- a value goes where the instruction says: to a port it waits there, with the pc as it is
+abbrev pub put_to : Dest → List Line → Node → ℤ → Node
+put_to (to.Port port) program node value = record node { mode = Writing value (One port) }
+
+abbrev pub take_by : Option Instr → List Line → Node → Dir → ℤ → Node
+take_by None program node dir value = node
+take_by (Some (Mov (from.Port port) dest)) program node dir value = put_to dest program node value
+
+-- the node after it took a value from a port
+abbrev pub take_value : List Line → Node → Dir → ℤ → Node
+take_value program node dir value = take_by (instr_at program node.pc) program node dir value
+
+-- ---- writing to a port
+
+abbrev pub offers_in : Mode → Dir → Option ℤ
+offers_in Ready dir = None
+offers_in (Writing value (One port)) dir = if is_same_dir port dir then Some value else None
+offers_in (Writing value Any) dir = Some value
+
+-- the value that the node gives to whoever reads from this port, where it gives one
+abbrev pub offers : Node → Dir → Option ℤ
+offers node dir = offers_in node.mode dir
+
+-- the port last used by ANY, once a value went this way
+abbrev pub last_after : Mode → Dir → Option Dir → Option Dir
+last_after Ready dir last = last
+last_after (Writing value (One port)) dir last = last
+last_after (Writing value Any) dir last = Some dir
+
+-- the node after it gave its value to a port
+abbrev pub gave : List Line → Node → Dir → Node
+gave program node dir = goes_on program (record node { last = last_after node.mode dir node.last })

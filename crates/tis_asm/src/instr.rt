@@ -1,0 +1,38 @@
+//! The instructions of a compute node.
+ghost use Rattle.std.specs.Prelude.{◌≡◌};
+ghost use Rattle.tis_base.specs.declared.tiles.Dir.TheVariants.{Up, Down};
+ghost use Rattle.tis_asm.specs.declared.instr.Source.TheVariants as from;
+ghost use Rattle.tis_asm.specs.declared.instr.Dest.TheVariants as to;
+ghost use Rattle.tis_asm.specs.declared.instr.Instr.TheVariants.{Mov};
+
+use tis_base::Dir;
+
+/// Where an instruction reads its value.
+#[derive(Clone, Copy, Debug, PartialEq, Eq, Hash)]
+pub enum Source {
+    /// The port in this direction: the node waits until its neighbour there writes.
+    Port(Dir),
+}
+
+/// Where an instruction writes its value.
+#[derive(Clone, Copy, Debug, PartialEq, Eq, Hash)]
+pub enum Dest {
+    /// The port in this direction: the node waits until its neighbour there reads.
+    Port(Dir),
+}
+
+/// An instruction, as the TIS-100 Reference Manual has it.
+#[derive(Clone, Copy, Debug, PartialEq, Eq, Hash)]
+pub enum Instr {
+    /// `MOV`: reads a value and writes it.
+    Mov(Source, Dest),
+}
+
+impl Default for Instr {
+    ghost is_default = { λ instr. instr ≡ Mov (from.Port Up) (to.Port Down) };
+
+    /// `MOV UP, DOWN`, which passes values on.
+    fn default() -> Self {
+        Instr::Mov(Source::Port(Dir::Up), Dest::Port(Dir::Down))
+    }
+}
