@@ -56,12 +56,20 @@ impl Program {
         self.lines.is_empty()
     }
 
+    // An instruction with its mark.
+    pub(crate) fn line(&self, index: u8) -> Line
+        requires { index < length self.now }
+        ensures { slice_get self.now index ≡ Some result }
+    {
+        self.lines[index as usize]
+    }
+
     /// The instruction with a number from 0 on.
     pub fn at(&self, index: u8) -> Instr
         requires { index < length self.now }
         ensures { option_map (λ line. line.instr) (slice_get self.now index) ≡ Some result }
     {
-        self.lines[index as usize].instr
+        self.line(index).instr
     }
 
     /// Whether a breakpoint marks the instruction with a number from 0 on.
@@ -69,7 +77,7 @@ impl Program {
         requires { index < length self.now }
         ensures { option_map (λ line. line.mark) (slice_get self.now index) ≡ Some result }
     {
-        self.lines[index as usize].mark
+        self.line(index).mark
     }
 
     /// One more instruction at the end, with a mark or without one. False, and the program stays as

@@ -48,11 +48,7 @@ pub fn print(alloc: Global, program: &Program) -> Result<Vec<u8>, NoMemory>
 {
     let mut out = Vec::new(alloc);
     for index in 0..program.len() {
-        let line = Line {
-            instr: program.at(index),
-            mark: program.marked(index),
-        };
-        push_line(&mut out, line)?;
+        push_line(&mut out, program.line(index))?;
         out.push(b'\n')?;
     }
     Ok(out)
