@@ -1,5 +1,5 @@
 -- One compute node: what it is, and each thing that it can do, by the instruction at its pc.
-use Rattle.std.specs.Prelude.{ℕ, ◌+◌, ℤ, pos, Bool, true, false, List, length, Option, Some, None, option_map, slice_get, nat_lt, if◌then◌else◌}
+use Rattle.std.specs.Prelude.{◌≡◌, ℕ, ◌+◌, ◌<◌, ℤ, pos, Bool, true, false, List, [], ◌∷◌, length, Option, Some, None, option_map, slice_get, nat_lt, if◌then◌else◌}
 use Rattle.tis_base.specs.declared.tiles.Dir.{Dir}
 use Rattle.tis_base.specs.declared.tiles.Dir.TheVariants.{Left, Right, Up, Down}
 use Rattle.tis_asm.specs.declared.instr.Source.{Source}
@@ -50,6 +50,11 @@ next_of program pc = if nat_lt (pc + 1) (length program) then pc + 1 else 0
 -- ready, at the next instruction
 abbrev pub goes_on : List Line → Node → Node
 goes_on program node = record node { pc = next_of program node.pc; mode = Ready }
+
+-- a node of this program: its pc is the number of an instruction, and without instructions it is 0 and the node is ready
+abbrev pub FitsProgram : List Line → Node → Type 0
+FitsProgram [] node = (node.pc ≡ 0) × (node.mode ≡ Ready)
+FitsProgram (line ∷ program) node = node.pc < length (line ∷ program)
 
 -- ---- local steps
 

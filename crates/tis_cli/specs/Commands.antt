@@ -1,0 +1,39 @@
+-- The words of the command line, and what the program answers.
+use Rattle.std.specs.Prelude.{◌≡◌, ℕ, List, [], ◌∷◌, ◌++◌, map, Option, Some, None, String, string_bytes, codes, if◌then◌else◌}
+use Rattle.std.specs.Str.{bytes_eq}
+use Rattle.tis_cli.specs.declared.status.Status.{Status}
+use Rattle.tis_cli.specs.declared.status.Status.TheVariants.{Done, Words, Refused, Missing, StoreFault, SinkFault, NoMemory}
+use Rattle.tis_cli.specs.declared.status.Refusal.{Refusal}
+use Rattle.tis_cli.specs.declared.status.Refusal.TheVariants.{NotThisForm}
+
+-- a command with its words
+pub data Command : Type 0 where
+  Compile : (net : List ℕ) → (save : List ℕ) → Command
+
+-- the command that these words are
+abbrev pub command_of : List (List ℕ) → Option Command
+command_of (word ∷ net ∷ save ∷ []) = if bytes_eq word (codes "compile") then Some (Compile net save) else None
+command_of _ = None
+
+-- the number that the program ends with
+abbrev pub number_of : Status → ℕ
+number_of Done = 0
+number_of Words = 2
+number_of (Refused refusal) = 3
+number_of Missing = 4
+number_of StoreFault = 5
+number_of SinkFault = 6
+number_of NoMemory = 7
+
+abbrev pub refusal_words : Refusal → List ℕ
+refusal_words NotThisForm = codes "NotThisForm"
+
+-- the line that says how the program ended, without its LF
+abbrev pub status_line : Status → List ℕ
+status_line Done = []
+status_line Words = codes "not a command"
+status_line (Refused refusal) = codes "refused " ++ refusal_words refusal
+status_line Missing = codes "missing"
+status_line StoreFault = codes "store fault"
+status_line SinkFault = codes "sink fault"
+status_line NoMemory = codes "no memory"

@@ -1,0 +1,46 @@
+-- The programs that a network is compiled to.
+use Rattle.std.specs.Prelude.{ℕ, Bool, true, false, List, [], ◌∷◌, ◌++◌, length, map, Option, Some, None, unwrap_or, ◌==◌, if◌then◌else◌}
+use Rattle.std.specs.List.{list_any, range_with_len}
+use Rattle.tis_base.specs.declared.tiles.Dir.TheVariants.{Up, Down}
+use Rattle.tis_asm.specs.declared.instr.Source.TheVariants as from
+use Rattle.tis_asm.specs.declared.instr.Dest.TheVariants as to
+use Rattle.tis_asm.specs.declared.instr.Instr.{Instr}
+use Rattle.tis_asm.specs.declared.instr.Instr.TheVariants.{Mov}
+use Rattle.tis_asm.specs.declared.program.Line.{Line}
+use Rattle.tis_asm.specs.Listing.{Listing}
+use Rattle.tis_cli.specs.Net.{Statement, Move, PortLine, Process, Net}
+
+-- an instruction without a mark
+abbrev pub plain : Instr → Line
+plain instr = record { instr = instr; mark = false }
+
+-- the code of a statement, in a column: it reads from above and writes downwards
+abbrev pub statement_code : Statement → List Line
+statement_code (Move read written) = plain (Mov (from.Port Up) (to.Port Down)) ∷ []
+
+abbrev pub code_of : List Statement → List Line
+code_of [] = []
+code_of (statement ∷ body) = statement_code statement ++ code_of body
+
+-- the program of a tile that a link passes, in a column
+abbrev pub pass_code : List Line
+pass_code = plain (Mov (from.Port Up) (to.Port Down)) ∷ []
+
+abbrev pub stands_at : Option ℕ → ℕ → Bool
+stands_at None tile = false
+stands_at (Some at) tile = at == tile
+
+-- the code of the process that stands on a tile
+abbrev pub process_code_at : List Process → ℕ → Option (List Line)
+process_code_at [] tile = None
+process_code_at (process ∷ processes) tile = if stands_at process.at tile then Some (code_of process.body) else process_code_at processes tile
+
+abbrev pub passes : PortLine → ℕ → Bool
+passes port tile = list_any (λ passed. passed == tile) (unwrap_or port.via [])
+
+-- the code of a process on its tile, a MOV on each tile that an output passes, and nothing elsewhere
+abbrev pub program_for : Net → ℕ → List Line
+program_for net tile = unwrap_or (process_code_at net.processes tile) (if list_any (λ port. passes port tile) net.outputs then pass_code else [])
+
+abbrev pub compiled : Net → Listing
+compiled net = record { tiles = net.tiles; programs = map (program_for net) (range_with_len 0 (length net.tiles.kinds)) }

@@ -1,0 +1,9 @@
+pub mod Net
+pub mod NetText
+pub mod Column
+pub mod Compiled
+pub mod Saves
+pub mod Commands
+pub mod Process
+pub mod Kahn
+pub mod Carries
