@@ -21,7 +21,7 @@ EventsKeepFitting = (grid : Grid) (state : State) (event : Event) → IsGrid gri
 
 -- a legal order of events from a state of a grid
 pub record IsOrder (grid : Grid) (state : State) (events : List Event) : Type 0 where
-  pub grid : IsGrid grid
+  pub is_grid : IsGrid grid
   pub fits : Fits grid state
   pub legal : IsLegal grid state events
 
