@@ -1,6 +1,7 @@
 pub mod Net
 pub mod NetText
 pub mod Column
+pub mod Reading
 pub mod Compiled
 pub mod Saves
 pub mod Commands

@@ -1,5 +1,6 @@
 -- Networks of processes, joined by first-in first-out channels (Kahn 1974), with where they are to stand.
-use Rattle.std.specs.Prelude.{ℕ, ◌≤◌, Bool, true, false, ◌&&◌, ◌||◌, List, [], ◌∷◌, length, Option, nat_le, IsTrue, ◌==◌}
+use Rattle.std.specs.Prelude.{ℕ, Bool, false, ◌&&◌, ◌||◌, List, [], ◌∷◌, length, Option, nat_le, IsTrue, ◌==◌}
+use Rattle.std.specs.Char.{is_ascii_alphabetic, is_ascii_alphanumeric}
 use Rattle.std.specs.List.{list_all}
 use Rattle.tis_base.specs.Tiles.{Board}
 
@@ -7,21 +8,17 @@ use Rattle.tis_base.specs.Tiles.{Board}
 abbrev pub Name : Type 0
 Name = List ℕ
 
-abbrev pub is_between : ℕ → ℕ → ℕ → Bool
-is_between low high byte = nat_le low byte && nat_le byte high
-
--- an ASCII letter
-abbrev pub is_letter : ℕ → Bool
-is_letter byte = is_between 65 90 byte || is_between 97 122 byte
-
--- a letter, a digit or `_`
+-- an ASCII letter, a digit or `_`
 abbrev pub is_name_byte : ℕ → Bool
-is_name_byte byte = is_letter byte || is_between 48 57 byte || byte == 95
+is_name_byte byte = is_ascii_alphanumeric byte || byte == 95
 
--- a letter, and then at most fifteen letters, digits or `_`
+abbrev pub begins_with_letter : List ℕ → Bool
+begins_with_letter [] = false
+begins_with_letter (byte ∷ bytes) = is_ascii_alphabetic byte
+
+-- an ASCII letter, and then letters, digits or `_`: at most sixteen bytes in all
 abbrev pub is_name : Name → Bool
-is_name [] = false
-is_name (first ∷ others) = is_letter first && list_all is_name_byte others && nat_le (length others) 15
+is_name name = (begins_with_letter name && list_all is_name_byte name) && nat_le (length name) 16
 
 abbrev pub IsName : Name → Type 0
 IsName name = IsTrue (is_name name)
