@@ -2,11 +2,16 @@
 use Rattle.std.specs.Prelude.{◌≡◌, ℕ, ◌+◌, ◌-◌, Bool, true, false, ◌&&◌, not, List, [], ◌∷◌, length, take, drop, take_while, Option, Some, None, option_and_then, codes, decimal, nat_le, if◌then◌else◌}
 use Rattle.std.specs.Str.{bytes_eq}
 use Rattle.tis_cli.specs.Net.{Name, is_name, is_name_byte}
+use Rattle.tis_cli.specs.declared.net_syntax.column.Column as read
 use Rattle.tis_cli.specs.Column.{Column}
+
+-- what comes next is read only where something was read
+unfoldable pub followed_by : {A B : Type 0} → Option A → (A → Option B) → Option B
+followed_by read next = option_and_then next read
 
 infixl 10 ◌>>=◌
 abbrev pub ◌>>=◌ : {A B : Type 0} → Option A → (A → Option B) → Option B
-read >>= next = option_and_then next read
+read >>= next = followed_by read next
 
 -- a call read what this reading gives: the value that is seen, and the bytes that are left
 abbrev pub Reads : {X Y : Type 0} → (X → Y) → Option X → List ℕ → Option (Y × List ℕ) → Type 0
@@ -84,3 +89,7 @@ column_at text = do
   output ← output_at input.0.1 input.1
   process ← process_at input.0.1 input.0.0 output.0 output.1
   whole (record { position = input.0.1; input = input.0.0; output = output.0; process = process.0 }) process.1
+
+-- what contracts see of a column that was read
+abbrev pub column_of : read.Column → Column
+column_of c = record { position = c.position; input = c.input; output = c.output; process = c.process }

@@ -3,4 +3,4 @@ mod column;
 mod name;
 mod reader;
 
-pub(crate) use column::Column;
+pub(crate) use column::{Column, read_net};

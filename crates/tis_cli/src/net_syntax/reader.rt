@@ -1,5 +1,5 @@
 //! Reading a text from left to right.
-ghost use Rattle.std.specs.Prelude.{◌≡◌, ◌↔◌, [], length, decimal, IsTrue};
+ghost use Rattle.std.specs.Prelude.{◌≡◌, ◌↔◌, [], length, decimal, IsTrue, IfSome, ◌<◌};
 ghost use Rattle.tis_cli.specs.Reading.{Reads, Passes, behind, name_run, name_at, position_at};
 
 use super::name::{Name, can_stand_in_name};
@@ -73,7 +73,8 @@ impl<'a> Reader<'a> {
     /// Reads the digit of a column.
     #[tactic(auto, unfolding(crate::specs::Reading::position_at))]
     pub fn position(&mut self) -> Option<u8>
-        ensures { Reads (λ position. position) result self.new (position_at self.old) }
+        ensures reads { Reads (λ position. position) result self.new (position_at self.old) }
+        ensures on_grid { IfSome result (λ position. position < 4) }
     {
         match self.rest {
             [digit @ b'0'..=b'3', rest @ ..] => {
