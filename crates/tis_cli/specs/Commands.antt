@@ -1,6 +1,8 @@
 -- The words of the command line, and what the program answers.
-use Rattle.std.specs.Prelude.{◌≡◌, ℕ, List, [], ◌∷◌, ◌++◌, map, Option, Some, None, String, string_bytes, codes, if◌then◌else◌}
+use Rattle.std.specs.Prelude.{ℕ, List, [], ◌∷◌, ◌++◌, Option, Some, None, codes, if◌then◌else◌}
 use Rattle.std.specs.Str.{bytes_eq}
+use Rattle.tis_base.specs.declared.store.StoreError.{StoreError}
+use Rattle.tis_base.specs.declared.store.StoreError.TheVariants as fault
 use Rattle.tis_cli.specs.declared.status.Status.{Status}
 use Rattle.tis_cli.specs.declared.status.Status.TheVariants.{Done, Words, Refused, Missing, StoreFault, SinkFault, NoMemory}
 use Rattle.tis_cli.specs.declared.status.Refusal.{Refusal}
@@ -37,3 +39,9 @@ status_line Missing = codes "missing"
 status_line StoreFault = codes "store fault"
 status_line SinkFault = codes "sink fault"
 status_line NoMemory = codes "no memory"
+
+-- the status that a fault of the store ends a command with
+abbrev pub store_status : StoreError → Status
+store_status fault.Missing = Missing
+store_status fault.Failed = StoreFault
+store_status fault.NoMemory = NoMemory

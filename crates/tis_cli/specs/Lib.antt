@@ -8,3 +8,5 @@ pub mod Commands
 pub mod Process
 pub mod Kahn
 pub mod Carries
+pub mod Outcomes
+pub mod Spoken

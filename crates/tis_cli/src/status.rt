@@ -2,7 +2,7 @@
 ghost use Rattle.std.specs.Prelude.{◌≡◌, IfOk};
 
 use std::alloc::Global;
-use tis_base::NoMemory;
+use tis_base::{NoMemory, StoreError};
 
 /// Why a text was refused.
 #[derive(Clone, Copy, Debug, PartialEq, Eq, Hash)]
@@ -50,6 +50,32 @@ impl Status {
 }
 
 ghost use Rattle.tis_cli.specs.Commands.{refusal_words, status_line};
+
+impl From<NoMemory> for Status {
+    ghost use Rattle.std.specs.Prelude.{◌≡◌};
+    ghost use Rattle.tis_cli.specs.declared.status.Status.TheVariants.{NoMemory as no_memory};
+
+    ghost from_gives = { λ _ status. status ≡ no_memory };
+
+    fn from(_: NoMemory) -> Self {
+        Status::NoMemory
+    }
+}
+
+impl From<StoreError> for Status {
+    ghost use Rattle.std.specs.Prelude.{◌≡◌};
+    ghost use Rattle.tis_cli.specs.Commands.{store_status};
+
+    ghost from_gives = { λ error status. status ≡ store_status error };
+
+    fn from(error: StoreError) -> Self {
+        match error {
+            StoreError::Missing => Status::Missing,
+            StoreError::Failed => Status::StoreFault,
+            StoreError::NoMemory => Status::NoMemory,
+        }
+    }
+}
 
 // The name of a refusal.
 fn refusal_text(refusal: Refusal) -> &'static [u8]

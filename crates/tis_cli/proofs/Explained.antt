@@ -1,0 +1,20 @@
+-- What the store told, and what follows for the status.
+use Rattle.std.proofs.Common.{◌≡◌, ℕ, List, Option, Some, None, refl, sym, subst}
+use Rattle.std.specs.Prelude.{IfSome}
+use Rattle.tis_base.specs.Outside.{Texts, text_at}
+use Rattle.tis_cli.specs.declared.status.Refusal.TheVariants.{NotThisForm}
+use Rattle.tis_cli.specs.Net.{Net}
+use Rattle.tis_cli.specs.Column.{NetOf}
+use Rattle.tis_cli.specs.Outcomes.{IsRefused}
+
+-- what a store told of its texts, where it told them
+told_is : (told : Option Texts) (P : Texts → Type 0) → IfSome told P → (texts : Texts) → told ≡ Some texts → P texts
+told_is None P h texts is = absurd cc
+told_is (Some other) P h texts is = let same : other ≡ texts = cc in subst P same h
+
+-- a text that was fetched and is no network is refused
+pub refusal_explained : (told : Option Texts) (name text seen : List ℕ) → IfSome told (λ texts. text_at texts name ≡ Some text) → seen ≡ text → ((net : Net) → NetOf seen net → ⊥)
+    → (texts : Texts) → told ≡ Some texts → (x : List ℕ) × (text_at texts name ≡ Some x) × IsRefused x NotThisForm
+refusal_explained told name text seen fetched same none texts is =
+    (text, told_is told (λ (t : Texts). text_at t name ≡ Some text) fetched texts is,
+    record { no_network = λ net of. none net (subst (λ (t : List ℕ). NetOf t net) (sym same) of); form = refl })

@@ -1,0 +1,13 @@
+-- A command as the program holds it.
+use Rattle.std.specs.Prelude.{◌≡◌, Option, Some, None, option_map}
+use Rattle.tis_cli.specs.declared.command.Command as spoken
+use Rattle.tis_cli.specs.declared.command.Command.TheVariants as held
+use Rattle.tis_cli.specs.Commands.{Command, Compile}
+
+-- the words of a command, by what they point to
+abbrev pub held_command : spoken.Command → Command
+held_command (held.Compile net save) = Compile net.now save.now
+
+-- the program holds this command
+abbrev pub IsSpoken : Option Command → Option spoken.Command → Type 0
+IsSpoken wanted result = wanted ≡ option_map held_command result
