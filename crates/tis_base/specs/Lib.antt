@@ -4,3 +4,6 @@ pub mod Lines
 pub mod Outside
 pub mod Answers
 pub mod Growing
+pub mod Counts
+pub mod MemStore
+pub mod MemSink

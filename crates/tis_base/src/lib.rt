@@ -1,6 +1,9 @@
 //! What every crate of the machine stands on: its numbers, its tiles, and the store and the sink outside of it.
 #![tactic(auto)]
 
+mod calls;
+mod mem_sink;
+mod mem_store;
 mod memory;
 mod number;
 mod sink;
@@ -9,6 +12,8 @@ mod tiles;
 mod value;
 mod values;
 
+pub use mem_sink::MemSink;
+pub use mem_store::MemStore;
 pub use memory::NoMemory;
 pub use number::push_number;
 pub use sink::{Sink, SinkError};
