@@ -7,3 +7,5 @@ pub mod Growing
 pub mod Counts
 pub mod MemStore
 pub mod MemSink
+pub mod Reading
+pub mod Tally
