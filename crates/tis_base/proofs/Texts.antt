@@ -46,8 +46,8 @@ module _ {Y Z : Type 0} where
   pub texts_of-insert : (es : List (String Y × Vec ℕ Z)) (k : String Y) (v : Vec ℕ Z) → texts_of (insert_entry string_cmp es k v) ≡ with_text (texts_of es) (string_bytes k) v.items
   texts_of-insert es k v =
       same_map nat_list_cmp_total (slice_cmp-IsAntisymmetric nat_cmp-IsAntisymmetric) _ _ (λ q.
-        get-from_entries nat_list_cmp_total (map entry_text (insert_entry string_cmp es k v)) q
-        ∙ ap (find bytes_cmp q) (map-insert_entry es k v)
-        ∙ find-put bytes_cmp nat_list_cmp_total q (string_bytes k) v.items (map entry_text es)
-        ∙ ap (cond (is_eq (bytes_cmp q (string_bytes k))) (Some v.items)) (sym (get-from_entries nat_list_cmp_total (map entry_text es) q))
-        ∙ sym (get-insert nat_list_cmp_total (texts_of es) (string_bytes k) v.items q))
+      get-from_entries nat_list_cmp_total (map entry_text (insert_entry string_cmp es k v)) q
+      ∙ ap (find bytes_cmp q) (map-insert_entry es k v)
+      ∙ find-put bytes_cmp nat_list_cmp_total q (string_bytes k) v.items (map entry_text es)
+      ∙ ap (cond (is_eq (bytes_cmp q (string_bytes k))) (Some v.items)) (sym (get-from_entries nat_list_cmp_total (map entry_text es) q))
+      ∙ sym (get-insert nat_list_cmp_total (texts_of es) (string_bytes k) v.items q))

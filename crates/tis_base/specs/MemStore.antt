@@ -19,9 +19,9 @@ pub record Contents : Type 0 where
 abbrev pub contents_code : Coded Contents
 contents_code =
     code_by (Texts × (List ℤ × (ℕ × (ℕ × ℕ)))) (coded× (finite.code (coded_list coded_ℕ) (coded_list coded_ℕ)) (coded× (coded_list coded_ℤ) (coded× coded_ℕ (coded× coded_ℕ coded_ℕ))))
-      (λ c. (c.texts, (c.failing, (c.calls, (c.faults, c.misses)))))
-      (λ p. record { texts = p.0; failing = p.1.0; calls = p.1.1.0; faults = p.1.1.1.0; misses = p.1.1.1.1 })
-      (λ _. refl)
+    (λ c. (c.texts, (c.failing, (c.calls, (c.faults, c.misses)))))
+    (λ p. record { texts = p.0; failing = p.1.0; calls = p.1.1.0; faults = p.1.1.1.0; misses = p.1.1.1.1 })
+    (λ _. refl)
 
 module _ {Y Z : Type 0} where
   -- an entry's name and bytes

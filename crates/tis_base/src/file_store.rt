@@ -1,13 +1,12 @@
 //! A folder of files as a store.
-ghost use Rattle.std.specs.Prelude.{◌≡◌, ◌≢◌, ◌≤◌, None, IsErrOf};
+ghost use Rattle.std.specs.Prelude.{◌≡◌, ◌≢◌, ◌≤◌, None, IfOk, IsErrOf, vec_len};
 ghost use Rattle.tis_base.specs.Outside.{Rose};
 ghost use Rattle.tis_base.specs.Counts.{one_more};
 
 use crate::store::{Store, StoreError};
-use crate::transfer::{cause_of, read_all, write_all};
+use crate::transfer::{LARGEST, cause_of, cause_of_open, read_all, write_all};
 use std::alloc::Global;
 use std::fs;
-use std::io::ErrorKind;
 use std::marker::Model;
 use std::rt::Files;
 
@@ -28,11 +27,12 @@ impl<'a, R> Model for FileStore<'a, R> {
 }
 
 // Reads the file with a name. Only where the file isn't there the name is missing.
-fn read_file<R: Files>(rt: &R, alloc: Global, name: &str) -> Result<Vec<u8>, StoreError> {
+fn read_file<R: Files>(rt: &R, alloc: Global, name: &str) -> Result<Vec<u8>, StoreError>
+    ensures fits { IfOk result (λ bytes. vec_len bytes ≤ LARGEST) }
+{
     match fs::open(rt, name) {
         Ok(mut file) => read_all(alloc, &mut file),
-        Err(error) if error.kind() == ErrorKind::NotFound => Err(StoreError::Missing),
-        Err(error) => Err(cause_of(error.kind())),
+        Err(error) => Err(cause_of_open(error.kind())),
     }
 }
 
@@ -82,8 +82,9 @@ impl<R: Files> Store for FileStore<'_, R> {
     ghost misses = { λ s. s.misses };
 
     /// The bytes of the file with this name, if there are no more than 16 MiB. A file that isn't
-    /// there is missing, and anything else that goes wrong is a fault.
+    /// there to be opened is missing, and anything else that goes wrong is a fault.
     fn fetch(&mut self, alloc: Global, name: &str) -> Result<Vec<u8>, StoreError>
+        ensures fits { IfOk result (λ bytes. vec_len bytes ≤ LARGEST) }
         ensures faults_rise { IsErrOf result StoreError.Failed → self.new.faults ≡ one_more self.old.faults }
         ensures faults_stay { result ≢ Err StoreError.Failed → self.new.faults ≡ self.old.faults }
         ensures misses_rise { IsErrOf result StoreError.Missing → self.new.misses ≡ one_more self.old.misses }

@@ -26,3 +26,6 @@ pub use store::{Store, StoreError};
 pub use tiles::{Dir, Shape, Tile, TileKind, Tiles};
 pub use value::Value;
 pub use values::Values;
+
+#[cfg(test)]
+mod tests;

@@ -22,10 +22,11 @@ impl Model for MemSink {
     ghost Value = { Output };
 
     ghost view = { λ s. record {
-        written = s.bytes.items;
-        failing = s.made.failing.items;
-        calls = s.made.made;
-        faults = s.made.faults } };
+      written = s.bytes.items;
+      failing = s.made.failing.items;
+      calls = s.made.made;
+      faults = s.made.faults;
+    } };
 }
 
 impl MemSink {

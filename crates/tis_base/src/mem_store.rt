@@ -30,11 +30,12 @@ impl Model for MemStore {
     ghost coded = { contents_code };
 
     ghost view = { λ s. record {
-        texts = texts_of s.entries.entries;
-        failing = s.made.failing.items;
-        calls = s.made.made;
-        faults = s.made.faults;
-        misses = s.misses } };
+      texts = texts_of s.entries.entries;
+      failing = s.made.failing.items;
+      calls = s.made.made;
+      faults = s.made.faults;
+      misses = s.misses;
+    } };
 }
 
 // The bytes under a name.

@@ -16,7 +16,7 @@ const TURNS: usize = LARGEST + 1;
 // How many bytes one read may take.
 const CHUNK: usize = 8192;
 
-/// The store's answer where its file gave an error other than that nothing is there.
+/// The store's answer where an open file gave this kind of error, or where a file couldn't be made.
 pub(crate) fn cause_of(kind: ErrorKind) -> StoreError
     ensures no_memory { (result ≡ StoreError.NoMemory) ↔ (kind ≡ ErrorKind.OutOfMemory) }
     ensures never_missing { ¬ (result ≡ StoreError.Missing) }
@@ -25,6 +25,18 @@ pub(crate) fn cause_of(kind: ErrorKind) -> StoreError
         StoreError::NoMemory
     } else {
         StoreError::Failed
+    }
+}
+
+/// The store's answer where a file couldn't be opened. Only one that isn't there is missing.
+pub(crate) fn cause_of_open(kind: ErrorKind) -> StoreError
+    ensures missing { (result ≡ StoreError.Missing) ↔ (kind ≡ ErrorKind.NotFound) }
+    ensures no_memory { (result ≡ StoreError.NoMemory) ↔ (kind ≡ ErrorKind.OutOfMemory) }
+{
+    if kind == ErrorKind::NotFound {
+        StoreError::Missing
+    } else {
+        cause_of(kind)
     }
 }
 

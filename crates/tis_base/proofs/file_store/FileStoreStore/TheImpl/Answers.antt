@@ -10,7 +10,7 @@ fetch-tells g c = record {
   failed_counted = c.ensures.failed_counted;
   texts_stay = refl;
   faults_never_fall = c.ensures.faults_never_fall;
-  misses_never_fall = c.ensures.misses_never_fall
+  misses_never_fall = c.ensures.misses_never_fall;
 }
 
 pub keep-tells : goal.keep-tells
@@ -20,5 +20,5 @@ keep-tells g c = record {
   never_missing = c.ensures.never_missing;
   failed_counted = c.ensures.failed_counted;
   faults_never_fall = c.ensures.faults_never_fall;
-  misses_never_fall = c.ensures.misses_never_fall
+  misses_never_fall = c.ensures.misses_never_fall;
 }

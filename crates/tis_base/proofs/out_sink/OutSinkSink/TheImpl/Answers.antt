@@ -8,5 +8,5 @@ put-tells g c = record {
   failed = c.ensures.failed;
   failed_counted = c.ensures.failed_counted;
   no_memory = λ _. refl;
-  faults_never_fall = c.ensures.faults_never_fall
+  faults_never_fall = c.ensures.faults_never_fall;
 }
