@@ -199,6 +199,7 @@ fn tiles_stand_four_in_a_row(rt: HostRuntime) -> Result<(), Fail> {
         (11, Dir::Left, Some(10)),
         (11, Dir::Up, Some(7)),
     ] {
+        assert!(rt; tile < 12);
         let tile = Tile { number: tile };
         assert_eq!(rt;
             tiles.neighbour(tile, dir),
