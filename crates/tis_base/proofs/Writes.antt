@@ -1,5 +1,5 @@
 -- What two writes in a row append.
-use Rattle.std.proofs.Common.{◌≡◌, ℕ, List, ◌++◌, Option, Some, None, ap, ◌∙◌, append_assoc}
+use Rattle.std.proofs.Common.{ℕ, List, ◌++◌, Option, Some, None, ap, ◌∙◌, append_assoc}
 use Rattle.std.specs.Io.KnownBytes.{Appends}
 
 pub Appends-append : (before between after : Option (List ℕ)) (xs ys : List ℕ) → Appends before between xs → Appends between after ys → Appends before after (xs ++ ys)

@@ -10,7 +10,8 @@ use std::fs;
 use std::marker::Model;
 use std::rt::Files;
 
-/// The files of a system, by their names. What they hold can change at any time, so it tells no text.
+/// The files of a system, by their names. What they hold can change at any time, so it tells no
+/// text.
 #[derive(Drop)]
 pub struct FileStore<'a, R> {
     rt: &'a R,
@@ -60,8 +61,10 @@ impl<'a, R> FileStore<'a, R> {
 
     // Counts an answer that is a fault or a miss.
     fn count(&mut self, error: StoreError)
-        ensures failed { error ≡ StoreError.Failed → self.new ≡ record self.old { faults = one_more self.old.faults } }
-        ensures missing { error ≡ StoreError.Missing → self.new ≡ record self.old { misses = one_more self.old.misses } }
+        ensures failed { error ≡ StoreError.Failed
+            → self.new ≡ record self.old { faults = one_more self.old.faults } }
+        ensures missing { error ≡ StoreError.Missing
+            → self.new ≡ record self.old { misses = one_more self.old.misses } }
         ensures no_memory { error ≡ StoreError.NoMemory → self.new ≡ self.old }
         ensures faults_never_fall { self.old.faults ≤ self.new.faults }
         ensures misses_never_fall { self.old.misses ≤ self.new.misses }
@@ -85,12 +88,16 @@ impl<R: Files> Store for FileStore<'_, R> {
     /// there to be opened is missing, and anything else that goes wrong is a fault.
     fn fetch(&mut self, alloc: Global, name: &str) -> Result<Vec<u8>, StoreError>
         ensures fits { IfOk result (λ bytes. vec_len bytes ≤ LARGEST) }
-        ensures faults_rise { IsErrOf result StoreError.Failed → self.new.faults ≡ one_more self.old.faults }
+        ensures faults_rise { IsErrOf result StoreError.Failed
+            → self.new.faults ≡ one_more self.old.faults }
         ensures faults_stay { result ≢ Err StoreError.Failed → self.new.faults ≡ self.old.faults }
-        ensures misses_rise { IsErrOf result StoreError.Missing → self.new.misses ≡ one_more self.old.misses }
+        ensures misses_rise { IsErrOf result StoreError.Missing
+            → self.new.misses ≡ one_more self.old.misses }
         ensures misses_stay { result ≢ Err StoreError.Missing → self.new.misses ≡ self.old.misses }
-        ensures missing_counted { IsErrOf result StoreError.Missing → Rose self.old.misses self.new.misses }
-        ensures failed_counted { IsErrOf result StoreError.Failed → Rose self.old.faults self.new.faults }
+        ensures missing_counted { IsErrOf result StoreError.Missing
+            → Rose self.old.misses self.new.misses }
+        ensures failed_counted { IsErrOf result StoreError.Failed
+            → Rose self.old.faults self.new.faults }
         ensures faults_never_fall { self.old.faults ≤ self.new.faults }
         ensures misses_never_fall { self.old.misses ≤ self.new.misses }
     {
@@ -107,10 +114,12 @@ impl<R: Files> Store for FileStore<'_, R> {
     /// goes wrong is a fault, as a folder that isn't there, and the file may then be cut short.
     fn keep(&mut self, name: &str, bytes: &[u8]) -> Result<(), StoreError>
         ensures never_missing { result ≢ Err StoreError.Missing }
-        ensures faults_rise { IsErrOf result StoreError.Failed → self.new.faults ≡ one_more self.old.faults }
+        ensures faults_rise { IsErrOf result StoreError.Failed
+            → self.new.faults ≡ one_more self.old.faults }
         ensures faults_stay { result ≢ Err StoreError.Failed → self.new.faults ≡ self.old.faults }
         ensures misses_stay { self.new.misses ≡ self.old.misses }
-        ensures failed_counted { IsErrOf result StoreError.Failed → Rose self.old.faults self.new.faults }
+        ensures failed_counted { IsErrOf result StoreError.Failed
+            → Rose self.old.faults self.new.faults }
         ensures faults_never_fall { self.old.faults ≤ self.new.faults }
         ensures misses_never_fall { self.old.misses ≤ self.new.misses }
     {

@@ -61,16 +61,22 @@ impl Sink for MemSink {
 
     ghost faults = { λ s. s.faults };
 
+    /// Writes these bytes behind those that were written before. A call that is made to fail, and
+    /// one for which memory runs out, writes none of them.
     fn put(&mut self, bytes: &[u8]) -> Result<(), SinkError>
         ensures ok { OnOk result (self.new.written ≡ self.old.written ++ bytes.now) }
         ensures err { OnErr result (self.new.written ≡ self.old.written) }
-        ensures failed { IsErrOf result SinkError.Failed → WroteFront (Some self.old.written) bytes.now (Some self.new.written) }
-        ensures failed_as_told { IsErrOf result SinkError.Failed ↔ Contains self.old.failing (pos self.old.calls) }
+        ensures failed { IsErrOf result SinkError.Failed
+            → WroteFront (Some self.old.written) bytes.now (Some self.new.written) }
+        ensures failed_as_told { IsErrOf result SinkError.Failed
+            ↔ Contains self.old.failing (pos self.old.calls) }
 
         ensures calls { self.new.calls ≡ one_more self.old.calls }
-        ensures faults_rise { IsErrOf result SinkError.Failed → self.new.faults ≡ one_more self.old.faults }
+        ensures faults_rise { IsErrOf result SinkError.Failed
+            → self.new.faults ≡ one_more self.old.faults }
         ensures faults_stay { result ≢ Err SinkError.Failed → self.new.faults ≡ self.old.faults }
-        ensures failed_counted { IsErrOf result SinkError.Failed → Rose self.old.faults self.new.faults }
+        ensures failed_counted { IsErrOf result SinkError.Failed
+            → Rose self.old.faults self.new.faults }
         ensures faults_never_fall { self.old.faults ≤ self.new.faults }
 
         ensures failing_stay { self.new.failing ≡ self.old.failing }

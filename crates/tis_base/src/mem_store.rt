@@ -55,7 +55,8 @@ fn put(
     name: &str,
     bytes: &[u8],
 ) -> Result<(), NoMemory>
-    ensures ok { OnOk result (texts_of entries.new.entries ≡ with_text (texts_of entries.old.entries) name.now bytes.now) }
+    ensures ok { OnOk result (texts_of entries.new.entries
+        ≡ with_text (texts_of entries.old.entries) name.now bytes.now) }
     ensures err { OnErr result (texts_of entries.new.entries ≡ texts_of entries.old.entries) }
 {
     let name = String::from_str(alloc, name)?;
@@ -67,7 +68,8 @@ fn put(
 impl MemStore {
     /// An empty store that fails no call. It takes no memory.
     pub fn honest(alloc: Global) -> MemStore
-        ensures { result ≡ record { texts = finite.empty; failing = []; calls = 0; faults = 0; misses = 0 } }
+        ensures { result
+            ≡ record { texts = finite.empty; failing = []; calls = 0; faults = 0; misses = 0 } }
     {
         MemStore::failing(alloc, Values::new(alloc))
     }
@@ -75,7 +77,13 @@ impl MemStore {
     /// An empty store that fails exactly the calls with these numbers. Fetches and keeps are
     /// counted together from 0, so a negative number fails none. It takes no memory.
     pub fn failing(alloc: Global, calls: Values) -> MemStore
-        ensures { result ≡ record { texts = finite.empty; failing = calls.items; calls = 0; faults = 0; misses = 0 } }
+        ensures { result ≡ record {
+          texts = finite.empty;
+          failing = calls.items;
+          calls = 0;
+          faults = 0;
+          misses = 0;
+        } }
     {
         MemStore {
             alloc,
@@ -88,7 +96,8 @@ impl MemStore {
     /// Puts these bytes under a name. It is no call: nothing is counted, and it isn't made to fail.
     /// Want of memory leaves the store as it was.
     pub fn set(&mut self, name: &str, bytes: &[u8]) -> Result<(), NoMemory>
-        ensures ok { OnOk result (self.new ≡ record self.old { texts = with_text self.old.texts name.now bytes.now }) }
+        ensures ok { OnOk result (self.new
+            ≡ record self.old { texts = with_text self.old.texts name.now bytes.now }) }
         ensures err { OnErr result (self.new ≡ self.old) }
     {
         put(&mut self.entries, self.alloc, name, bytes)
@@ -109,20 +118,29 @@ impl Store for MemStore {
 
     ghost misses = { λ s. s.misses };
 
+    /// The bytes under a name. A call that is made to fail is a fault, also where the name isn't
+    /// there. The bytes are a copy, for which memory can run out.
     fn fetch(&mut self, alloc: Global, name: &str) -> Result<Vec<u8>, StoreError>
         ensures ok { IfOk result (λ bytes. text_at self.old.texts name.now ≡ Some bytes.items) }
         ensures missing { IsErrOf result StoreError.Missing
-            ↔ ((text_at self.old.texts name.now ≡ None) × (¬ Contains self.old.failing (pos self.old.calls))) }
-        ensures failed_as_told { IsErrOf result StoreError.Failed ↔ Contains self.old.failing (pos self.old.calls) }
-        ensures no_memory { IsErrOf result StoreError.NoMemory → IsSome (text_at self.old.texts name.now) }
+            ↔ ((text_at self.old.texts name.now ≡ None)
+            × (¬ Contains self.old.failing (pos self.old.calls))) }
+        ensures failed_as_told { IsErrOf result StoreError.Failed
+            ↔ Contains self.old.failing (pos self.old.calls) }
+        ensures no_memory { IsErrOf result StoreError.NoMemory
+            → IsSome (text_at self.old.texts name.now) }
 
         ensures calls { self.new.calls ≡ one_more self.old.calls }
-        ensures faults_rise { IsErrOf result StoreError.Failed → self.new.faults ≡ one_more self.old.faults }
+        ensures faults_rise { IsErrOf result StoreError.Failed
+            → self.new.faults ≡ one_more self.old.faults }
         ensures faults_stay { result ≢ Err StoreError.Failed → self.new.faults ≡ self.old.faults }
-        ensures misses_rise { IsErrOf result StoreError.Missing → self.new.misses ≡ one_more self.old.misses }
+        ensures misses_rise { IsErrOf result StoreError.Missing
+            → self.new.misses ≡ one_more self.old.misses }
         ensures misses_stay { result ≢ Err StoreError.Missing → self.new.misses ≡ self.old.misses }
-        ensures missing_counted { IsErrOf result StoreError.Missing → Rose self.old.misses self.new.misses }
-        ensures failed_counted { IsErrOf result StoreError.Failed → Rose self.old.faults self.new.faults }
+        ensures missing_counted { IsErrOf result StoreError.Missing
+            → Rose self.old.misses self.new.misses }
+        ensures failed_counted { IsErrOf result StoreError.Failed
+            → Rose self.old.faults self.new.faults }
         ensures faults_never_fall { self.old.faults ≤ self.new.faults }
         ensures misses_never_fall { self.old.misses ≤ self.new.misses }
 
@@ -141,16 +159,21 @@ impl Store for MemStore {
         }
     }
 
+    /// Puts these bytes under a name, in the place of those that were there. A fault and want of
+    /// memory leave the texts as they were.
     fn keep(&mut self, name: &str, bytes: &[u8]) -> Result<(), StoreError>
         ensures ok { OnOk result (self.new.texts ≡ with_text self.old.texts name.now bytes.now) }
         ensures err { OnErr result (self.new.texts ≡ self.old.texts) }
         ensures never_missing { result ≢ Err StoreError.Missing }
-        ensures failed_as_told { IsErrOf result StoreError.Failed ↔ Contains self.old.failing (pos self.old.calls) }
+        ensures failed_as_told { IsErrOf result StoreError.Failed
+            ↔ Contains self.old.failing (pos self.old.calls) }
 
         ensures calls { self.new.calls ≡ one_more self.old.calls }
-        ensures faults_rise { IsErrOf result StoreError.Failed → self.new.faults ≡ one_more self.old.faults }
+        ensures faults_rise { IsErrOf result StoreError.Failed
+            → self.new.faults ≡ one_more self.old.faults }
         ensures faults_stay { result ≢ Err StoreError.Failed → self.new.faults ≡ self.old.faults }
-        ensures failed_counted { IsErrOf result StoreError.Failed → Rose self.old.faults self.new.faults }
+        ensures failed_counted { IsErrOf result StoreError.Failed
+            → Rose self.old.faults self.new.faults }
         ensures faults_never_fall { self.old.faults ≤ self.new.faults }
 
         ensures misses_stay { self.new.misses ≡ self.old.misses }

@@ -45,7 +45,8 @@ fn add(bytes: &mut Vec<u8>, more: &[u8]) -> Result<(), StoreError>
     requires { vec_len bytes.old ≤ LARGEST }
     ensures ok { OnOk result (bytes.new.items ≡ bytes.old.items ++ more.now) }
     ensures fits { OnOk result (vec_len bytes.new ≤ LARGEST) }
-    ensures too_large { IsErrOf result StoreError.Failed ↔ (LARGEST < vec_len bytes.old + length more.now) }
+    ensures too_large { IsErrOf result StoreError.Failed
+        ↔ (LARGEST < vec_len bytes.old + length more.now) }
     ensures never_missing { ¬ (IsErrOf result StoreError.Missing) }
 {
     if LARGEST - bytes.len() < more.len() {
@@ -59,7 +60,8 @@ fn add(bytes: &mut Vec<u8>, more: &[u8]) -> Result<(), StoreError>
 // interrupts reads nothing.
 fn read_more<F: Read>(file: &mut F, bytes: &mut Vec<u8>) -> Result<bool, StoreError>
     requires { vec_len bytes.old ≤ LARGEST }
-    ensures reads { OnOk result (ReadsMore (F.remaining file.old) (F.remaining file.new) bytes.old.items bytes.new.items) }
+    ensures reads { OnOk result (ReadsMore (F.remaining file.old) (F.remaining file.new)
+        bytes.old.items bytes.new.items) }
     ensures end { IfOk result (λ is_end. IsTrue is_end → IsAtEnd (F.remaining file.new)) }
     ensures fits { OnOk result (vec_len bytes.new ≤ LARGEST) }
     ensures never_missing { ¬ (IsErrOf result StoreError.Missing) }
@@ -75,10 +77,11 @@ fn read_more<F: Read>(file: &mut F, bytes: &mut Vec<u8>) -> Result<bool, StoreEr
     }
 }
 
-/// All that a reader gives, if it is no more than 16 MiB and ends within a turn for each byte and one
-/// for the end. A read that a signal interrupts counts as a turn.
+/// All that a reader gives, if it is no more than 16 MiB and ends within a turn for each byte and
+/// one for the end. A read that a signal interrupts counts as a turn.
 pub(crate) fn read_all<F: Read>(alloc: Global, file: &mut F) -> Result<Vec<u8>, StoreError>
-    ensures reads { IfOk result (λ bytes. Consumes (F.remaining file.old) (F.remaining file.new) bytes.items) }
+    ensures reads { IfOk result (λ bytes.
+        Consumes (F.remaining file.old) (F.remaining file.new) bytes.items) }
     ensures end { OnOk result (IsAtEnd (F.remaining file.new)) }
     ensures fits { IfOk result (λ bytes. vec_len bytes ≤ LARGEST) }
     ensures never_missing { ¬ (IsErrOf result StoreError.Missing) }
@@ -96,7 +99,8 @@ pub(crate) fn read_all<F: Read>(alloc: Global, file: &mut F) -> Result<Vec<u8>, 
 // signal interrupts.
 fn write_some<W: Write>(writer: &mut W, bytes: &[u8]) -> Result<usize, ErrorKind>
     ensures bound { IfOk result (λ count. count ≤ length bytes.now) }
-    ensures writes { IfOk result (λ count. Appends (W.contents writer.old) (W.contents writer.new) (take count bytes.now)) }
+    ensures writes { IfOk result (λ count.
+        Appends (W.contents writer.old) (W.contents writer.new) (take count bytes.now)) }
 {
     match writer.write(bytes) {
         Ok(0) => Err(ErrorKind::WriteZero),
