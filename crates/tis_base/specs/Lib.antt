@@ -5,3 +5,8 @@ pub mod Prefix
 pub mod Outside
 pub mod Answers
 pub mod Growing
+pub mod Counts
+pub mod MemStore
+pub mod MemSink
+pub mod Reading
+pub mod Tally

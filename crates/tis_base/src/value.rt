@@ -1,5 +1,5 @@
 //! The numbers that the machine holds.
-ghost use Rattle.std.specs.Prelude.{◌≡◌, ◌↔◌, IsSome, IfSome};
+ghost use Rattle.std.specs.Prelude.{◌≡◌, ◌↔◌, IsSome, IfSome, IsTrue, pos};
 ghost use Rattle.tis_base.specs.Saturation.{sat, IsValue};
 
 use std::marker::Model;
@@ -58,5 +58,11 @@ impl Value {
         ensures held { IsValue self }
     {
         i64::from(self.number)
+    }
+    /// Whether it is this number.
+    pub(crate) fn is(self, number: u64) -> bool
+        ensures { IsTrue result ↔ (self ≡ pos number) }
+    {
+        0 <= self.number && u64::from(self.number.unsigned_abs()) == number
     }
 }

@@ -1,5 +1,5 @@
 //! A list of values that grows at its end.
-ghost use Rattle.std.specs.Prelude.{◌≡◌, ◌<◌, [], ◌∷◌, ◌++◌, length, slice_get, OnOk, OnErr, Some, IsTrue, ◌↔◌};
+ghost use Rattle.std.specs.Prelude.{◌≡◌, ◌<◌, [], ◌∷◌, ◌++◌, length, slice_get, OnOk, OnErr, Some, IsTrue, ◌↔◌, Contains, pos};
 
 use crate::memory::NoMemory;
 use crate::value::Value;
@@ -60,5 +60,11 @@ impl Values {
         ensures { slice_get self.now.items index ≡ Some result }
     {
         self.values[index]
+    }
+    /// Whether the list has this number.
+    pub(crate) fn has(&self, number: u64) -> bool
+        ensures { IsTrue result ↔ Contains self.now.items (pos number) }
+    {
+        self.values.iter().any(|value| value.is(number))
     }
 }
