@@ -7,3 +7,4 @@ pub mod Commands
 pub mod Process
 pub mod Kahn
 pub mod Carries
+pub mod Stage
