@@ -1,5 +1,5 @@
 -- Stages that stand one below the other carry what all of them make, whatever the order of the events.
-use Rattle.std.proofs.Common.{◌≡◌, ◌≢◌, ℕ, zero, suc, ◌+◌, ◌-◌, ◌*◌, ◌<◌, ◌≤◌, ℤ, Bool, List, [], ◌∷◌, ◌++◌, length, map, drop, replicate, get_or, length-append, Option, Some, None, refl, sym, ap, subst, subst₂, ◌∙◌, inl, inr, append-nil, arith}
+use Rattle.std.proofs.Common.{◌≡◌, ◌≢◌, ℕ, zero, suc, ◌+◌, ◌-◌, ◌*◌, ◌<◌, ◌≤◌, ℤ, Bool, List, [], ◌∷◌, ◌++◌, length, map, drop, replicate, get_or, length-append, Option, Some, None, refl, sym, ap, subst, subst₂, ◌∙◌, inl, inr, append-nil, le_trans, arith}
 use Rattle.std.specs.Prelude.{IsTrue, ◌⊎◌, All, sum_by}
 use Rattle.std.specs.List.{range_with_len}
 use Rattle.std.proofs.lemmas.Bool.{cases_lt, cases_eq}
@@ -25,7 +25,7 @@ use Rattle.tis_grid.specs.Events.{program_of, next_tile, bottom_of, Wants, Offer
 use Rattle.tis_grid.specs.Orders.{Fits, after, IsLegal, IsAtRest}
 use Rattle.tis_grid.specs.OwnSteps.{steps_of, values_left}
 use Rattle.tis_grid.specs.Laws.{IsOrder}
-use Rattle.tis_cli.specs.Stage.{Next, GoesOn, WaitsAbove, GivesBelow, WorksAs, Stage, made_by, most_steps, StandsOn, below, StandDown, IsAmong}
+use Rattle.tis_cli.specs.Stage.{Next, GoesOn, WaitsAbove, GivesBelow, WorksAs, Stage, made_by, most_steps, StandsOn, below, StandDown, IsAmong, IsStack, FollowsStack}
 use Rattle.tis_cli.proofs.GridLaws.{GridLaws}
 
 -- ---- lists
@@ -168,16 +168,76 @@ module _ (laws : GridLaws) (grid : Grid) (events : List Event) (is_grid : IsGrid
 
   -- at rest, where the first stage waits, it took the whole input
   took_all : (position : ℕ) → position < grid.puzzle.tiles.shape.columns → IsAtRest grid (after grid (start grid) events) → Wants grid (after grid (start grid) events) position Up → taken_from Up (steps_of grid (start grid) events position) ≡ values_at grid.puzzle.inputs position
-  took_all position inside rest waits = ?
+  took_all position inside rest waits =
+      let values = values_at grid.puzzle.inputs position in
+      let left = left_at (after grid (start grid) events) position in
+      let passed = laws.inputs_pass_all grid (start grid) events order position inside in
+      let none_left : left ≤ 0 = elim (cases_lt 0 left) [ inl some ↦ absurd (rest (In position) (inside, some, waits)) | inr none ↦ none ] in
+      let rest_is : values_left grid (after grid (start grid) events) position ≡ [] = drop_all (length values - left) values (omega arith) in
+      let taken = taken_from Up (steps_of grid (start grid) events position) in
+      sym (append-nil taken) ∙ ap (λ (more : List ℤ). taken ++ more) (sym rest_is) ∙ sym passed ∙ left-start grid position inside
 
   -- each tile on which a stage stands makes a bounded number of steps
   few_steps : (position tile first : ℕ) (stage : Stage) (stages : List Stage) (count : ℕ) → StandDown grid position first stage stages → IsAmong grid tile first (stage ∷ stages) → length (taken_from Up (steps_of grid (start grid) events first)) ≤ count →
       length (steps_of grid (start grid) events tile) ≤ most_steps (stage ∷ stages) count
-  few_steps position tile first stage [] count stand among few = ?
-  few_steps position tile first stage (next ∷ stages) count stand among few = ?
+  few_steps position tile first stage [] count stand among few =
+      let here = steps_of_stage stage (steps_of grid (start grid) events first) _ count (tile_works first stage stand.0) few in
+      elim among [
+        | inl same ↦ subst (λ (t : ℕ). length (steps_of grid (start grid) events t) ≤ most_steps (stage ∷ []) count) (sym same) (omega arith)
+        | inr none ↦ absurd none
+      ]
+  few_steps position tile first stage (next ∷ stages) count stand among few =
+      let here = steps_of_stage stage (steps_of grid (start grid) events first) _ count (tile_works first stage stand.0) few in
+      let link = passed_down first stage next stand.0 stand.1 (head_stands grid position (below grid first) next stages stand.2) in
+      let given = prefix_length _ _ (tile_works first stage stand.0).front in
+      let made = stage.is_stage.no_longer (taken_from Up (steps_of grid (start grid) events first)) in
+      let fewer : length (taken_from Up (steps_of grid (start grid) events (below grid first))) ≤ count = omega (arith, ap length link) in
+      elim among [
+        | inl same ↦ subst (λ (t : ℕ). length (steps_of grid (start grid) events t) ≤ most_steps (stage ∷ next ∷ stages) count) (sym same) (omega arith)
+        | inr lower ↦ let later = few_steps position tile (below grid first) next stages count stand.2 lower fewer in omega arith
+      ]
 
   -- past the columns there is no output
   no_output : (position : ℕ) → grid.puzzle.tiles.shape.columns ≤ position → outs (after grid (start grid) events) position ≡ []
   no_output position outside =
       let fits = after_fits laws grid (start grid) events is_grid order.fits legal in
       get_or_past (after grid (start grid) events).outs position [] (omega (arith, fits.outs))
+
+  -- other outputs have no value
+  others_empty : (position : ℕ) (stage : Stage) (stages : List Stage) → IsStack grid position stage stages → (other : ℕ) → other ≢ position → outs (after grid (start grid) events) other ≡ []
+  others_empty position stage stages stack other apart =
+      elim (cases_lt other grid.puzzle.tiles.shape.columns) [
+        | inl inside ↦ output_is other inside ∙ ap (given_to Down) (tile_rests (bottom_of grid other) (stack.other_bottoms other inside apart))
+        | inr outside ↦ no_output other outside
+      ]
+
+  -- no tile makes more steps than all stages at most
+  each_tile : (position : ℕ) (stage : Stage) (stages : List Stage) → IsStack grid position stage stages → (tile : ℕ) →
+      length (steps_of grid (start grid) events tile) ≤ most_steps (stage ∷ stages) (length (values_at grid.puzzle.inputs position))
+  each_tile position stage stages stack tile =
+      elim (stack.elsewhere tile) [
+        | inl among ↦ few_steps position tile position stage stages _ stack.stand among (prefix_length _ _ (took_front position stack.inside))
+        | inr is_empty ↦ let none : length (steps_of grid (start grid) events tile) ≡ 0 = ap length (tile_rests tile is_empty) in omega arith
+      ]
+
+  -- the number of events is bounded
+  few_events : (position : ℕ) (stage : Stage) (stages : List Stage) → IsStack grid position stage stages →
+      length events ≤ length grid.puzzle.tiles.kinds * most_steps (stage ∷ stages) (length (values_at grid.puzzle.inputs position))
+  few_events position stage stages stack =
+      let most = most_steps (stage ∷ stages) (length (values_at grid.puzzle.inputs position)) in
+      let tiles = range_with_len 0 (length grid.puzzle.tiles.kinds) in
+      let all : length tiles ≡ length grid.puzzle.tiles.kinds = length-range_with_len 0 (length grid.puzzle.tiles.kinds) in
+      let sum = sum_by-le (λ (tile : ℕ). length (steps_of grid (start grid) events tile)) most tiles (λ k d inside. each_tile position stage stages stack (get_or tiles k d)) in
+      subst (λ (count : ℕ). length events ≤ count * most) all (le_trans (laws.steps_count_events grid (start grid) events order) sum)
+
+  -- a legal order from the start follows the stages
+  pub follows_stack : (position : ℕ) (stage : Stage) (stages : List Stage) → IsStack grid position stage stages → FollowsStack grid position (stage ∷ stages) events
+  follows_stack position stage stages stack =
+      record {
+        front = prefix_trans _ _ _ (output_front position position stage stages stack.inside stack.stand) (made_by-front (stage ∷ stages) _ _ (took_front position stack.inside));
+        others = others_empty position stage stages stack;
+        bounded = few_events position stage stages stack;
+        whole = λ has rest.
+            let at_rest = settled position position stage stages stack.inside has stack.stand rest in
+            at_rest.whole ∙ ap (made_by (stage ∷ stages)) (took_all position stack.inside rest at_rest.waits);
+      }

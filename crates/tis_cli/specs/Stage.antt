@@ -1,5 +1,5 @@
 -- Programs that work as one stage of a column: they read from above, and give what a function makes of it downwards.
-use Rattle.std.specs.Prelude.{◌≡◌, ◌≢◌, ℕ, ◌+◌, ◌≤◌, ℤ, List, [], ◌∷◌, length, Some, IsTrue, ◌⊎◌}
+use Rattle.std.specs.Prelude.{◌≡◌, ◌≢◌, ℕ, ◌+◌, ◌*◌, ◌<◌, ◌≤◌, ℤ, List, [], ◌∷◌, length, Some, IsTrue, ◌⊎◌}
 use Rattle.tis_base.specs.Prefix.{IsPrefixOf}
 use Rattle.tis_base.specs.Tiles.{IsCompute}
 use Rattle.tis_base.specs.declared.tiles.Dir.{Dir}
@@ -7,8 +7,11 @@ use Rattle.tis_base.specs.declared.tiles.Dir.TheVariants.{Up, Down}
 use Rattle.tis_asm.specs.declared.program.Line.{Line}
 use Rattle.tis_asm.specs.Node.{Node, fresh, can_local, wants, offers}
 use Rattle.tis_asm.specs.PortRuns.{Step, IsPortRun, after_steps, taken_from, given_to, own_count}
-use Rattle.tis_grid.specs.State.{Grid}
+use Rattle.tis_grid.specs.declared.event.Event.{Event}
+use Rattle.tis_grid.specs.Puzzle.{HasOutput, values_at}
+use Rattle.tis_grid.specs.State.{Grid, outs, start}
 use Rattle.tis_grid.specs.Events.{program_of, next_tile, bottom_of}
+use Rattle.tis_grid.specs.Orders.{after, IsAtRest}
 
 -- what a stage can do next: a local step, or take a value from above, or give one downwards
 pub data Next (program : List Line) (node : Node) : Type 0 where
@@ -67,3 +70,17 @@ StandDown grid position tile stage (next ∷ stages) = StandsOn grid tile stage 
 abbrev pub IsAmong : Grid → ℕ → ℕ → List Stage → Type 0
 IsAmong grid tile first [] = ⊥
 IsAmong grid tile first (stage ∷ stages) = (tile ≡ first) ⊎ IsAmong grid tile (below grid first) stages
+
+-- the stages stand down one column, from the top row to the bottom row, and no other tile has instructions
+pub record IsStack (grid : Grid) (position : ℕ) (stage : Stage) (stages : List Stage) : Type 0 where
+  pub inside : position < grid.puzzle.tiles.shape.columns
+  pub stand : StandDown grid position position stage stages
+  pub elsewhere : (tile : ℕ) → IsAmong grid tile position (stage ∷ stages) ⊎ (program_of grid tile ≡ [])
+  pub other_bottoms : (other : ℕ) → other < grid.puzzle.tiles.shape.columns → other ≢ position → program_of grid (bottom_of grid other) ≡ []
+
+-- an order from the start: the output of the column is a front of what the stages make of its input, no other output has a value, the number of events is bounded, and where no event can happen the output is all that the stages make
+pub record FollowsStack (grid : Grid) (position : ℕ) (stages : List Stage) (events : List Event) : Type 0 where
+  pub front : IsPrefixOf (outs (after grid (start grid) events) position) (made_by stages (values_at grid.puzzle.inputs position))
+  pub others : (other : ℕ) → other ≢ position → outs (after grid (start grid) events) other ≡ []
+  pub bounded : length events ≤ length grid.puzzle.tiles.kinds * most_steps stages (length (values_at grid.puzzle.inputs position))
+  pub whole : HasOutput grid.puzzle.outputs position → IsAtRest grid (after grid (start grid) events) → outs (after grid (start grid) events) position ≡ made_by stages (values_at grid.puzzle.inputs position)
