@@ -1,3 +1,6 @@
 pub mod GridLaws
 pub mod PassStage
 pub mod Stack
+pub mod ColumnKahn
+pub mod ColumnPrograms
+pub mod Columns

@@ -30,7 +30,7 @@ next_of_mode node (Writing value (One dir)) is_mode at_first waits = GivesBelow 
 next_of_mode node (Writing value Any) is_mode at_first waits = absurd waits
 
 -- what passes values on works as the function that changes nothing
-works_as : (steps : List Step) (node : Node) → Passes Up Down steps node → WorksAs pass_code (λ values. values) (λ count. 0) steps node
+pub works_as : (steps : List Step) (node : Node) → Passes Up Down steps node → WorksAs pass_code (λ values. values) (λ count. 0) steps node
 works_as steps node p =
     record {
       takes_above = p.takes_only;
@@ -42,7 +42,7 @@ works_as steps node p =
     }
 
 -- the program that passes values on
-pub pass_stage : Stage
+abbrev pub pass_stage : Stage
 pass_stage =
     record {
       program = pass_code;
