@@ -1,7 +1,7 @@
 -- The steps of a node, counted.
-use Rattle.std.proofs.Common.{◌≡◌, ℕ, ℤ, List, [], ◌∷◌, refl, arith}
+use Rattle.std.proofs.Common.{[], ◌∷◌, refl, arith}
 use Rattle.tis_base.specs.declared.tiles.Dir.TheVariants.{Left, Right, Up, Down}
-use Rattle.tis_asm.specs.PortRuns.{Step, Own, Took, Gave}
+use Rattle.tis_asm.specs.PortRuns.{Own, Took, Gave}
 use Rattle.tis_asm.specs.Counting.{StepsAddUp}
 
 -- each step is local, or takes a value, or gives one

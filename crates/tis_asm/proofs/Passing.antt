@@ -1,11 +1,11 @@
 -- One MOV between ports passes values on, and an empty program does nothing.
-use Rattle.std.proofs.Common.{◌≡◌, ◌≢◌, ℕ, ℤ, Bool, true, false, List, [], ◌∷◌, ◌++◌, Option, Some, None, refl, sym, ap, subst, ◌∙◌, append-nil, arith}
+use Rattle.std.proofs.Common.{◌≡◌, ◌≢◌, ℤ, Bool, true, false, List, [], ◌∷◌, ◌++◌, Option, Some, None, refl, sym, ap, ◌∙◌, append-nil, arith}
 use Rattle.std.specs.Prelude.{IsTrue, if◌then◌else◌}
 use Rattle.tis_base.specs.declared.tiles.Dir.{Dir}
 use Rattle.tis_base.specs.declared.tiles.Dir.TheVariants.{Left, Right, Up, Down}
-use Rattle.tis_asm.specs.Node.{Node, Mode, Ready, Writing, Toward, One, Any, fresh, is_same_dir}
-use Rattle.tis_asm.specs.PortRuns.{Step, Own, Took, Gave, IsStep, after_steps, IsPortRun, taken_from, given_to, taken_by, given_by, own_count}
-use Rattle.tis_asm.specs.Passing.{mov_program, in_hand, IsOne, WaitsAt, Passes, MovesPassValues, EmptyProgramsRest}
+use Rattle.tis_asm.specs.Node.{Node, Mode, Ready, Writing, One, Any, is_same_dir}
+use Rattle.tis_asm.specs.PortRuns.{Step, Own, Took, Gave, after_steps, IsPortRun, taken_from, given_to, own_count}
+use Rattle.tis_asm.specs.Passing.{mov_program, in_hand, WaitsAt, MovesPassValues, EmptyProgramsRest}
 
 -- a test that holds only of the same direction
 pub is_same_dir-true : (a b : Dir) → is_same_dir a b ≡ true → a ≡ b
@@ -72,6 +72,7 @@ then_gave source dest at port held value steps node to_dest same is_held later =
       in_order = rw (here, is_held) (ap (λ (values : List ℤ). value ∷ values) later.in_order);
     }
 
+-- steps that begin at any node that waits
 passes_from : (source dest : Dir) (mark : Bool) (acc bak : ℤ) (last : Option Dir) (mode : Mode) (steps : List Step) → WaitsAt mode dest →
     IsPortRun (mov_program source dest mark) (record { pc = 0; acc = acc; bak = bak; last = last; mode = mode }) steps →
     PassesFrom source dest mode steps (after_steps (mov_program source dest mark) (record { pc = 0; acc = acc; bak = bak; last = last; mode = mode }) steps)

@@ -1,5 +1,5 @@
 -- Lists that begin alike.
-use Rattle.std.proofs.Common.{◌≡◌, ℕ, ◌≤◌, List, [], ◌++◌, length, length-append, refl, sym, ap, ◌∙◌, append-nil, append_assoc, arith}
+use Rattle.std.proofs.Common.{◌≡◌, ◌≤◌, List, [], ◌++◌, length, length-append, sym, ap, ◌∙◌, append-nil, append_assoc, arith}
 use Rattle.tis_base.specs.Prefix.{IsPrefixOf}
 
 -- a list is a front of itself

@@ -1,11 +1,11 @@
 -- The streams of a column's network.
-use Rattle.std.proofs.Common.{◌≡◌, ◌≢◌, ℕ, zero, suc, ◌+◌, ◌*◌, ◌<◌, ◌≤◌, ℤ, Bool, true, false, ◌||◌, cond, List, [], ◌∷◌, ◌++◌, length, length-append, Some, refl, sym, ap, ◌∙◌, append-nil, append_assoc, arith}
+use Rattle.std.proofs.Common.{◌≡◌, ◌≢◌, ℕ, zero, suc, ◌+◌, ◌*◌, ◌<◌, ◌≤◌, ℤ, true, false, List, [], ◌∷◌, ◌++◌, length, length-append, Some, refl, sym, ap, ◌∙◌, append-nil, append_assoc, arith}
 use Rattle.std.specs.Str.{bytes_eq}
-use Rattle.std.proofs.lemmas.Bool.{eq-eqb, ne_eqb, false_from_ne_true, cond-true, cond-false}
+use Rattle.std.proofs.lemmas.Bool.{eq-eqb, ne_eqb, false_from_ne_true}
 use Rattle.std.proofs.lemmas.Slice.Eq.{bytes_eq-Decides}
 use Rattle.tis_grid.specs.Puzzle.{Input, values_at}
-use Rattle.tis_cli.specs.Net.{Name, Statement, Move, Process, Net}
-use Rattle.tis_cli.specs.Process.{Streams, with_stream, Doing, Outcome, rounds, beginning, stepped}
+use Rattle.tis_cli.specs.Net.{Name, Move, Process}
+use Rattle.tis_cli.specs.Process.{Streams, with_stream, Doing, rounds, beginning}
 use Rattle.tis_cli.specs.Kahn.{input_streams, read_count, step_limit, run_of, kahn_streams, kahn_at, all_steps, bound}
 use Rattle.tis_cli.specs.Column.{Column, IsColumn, column_net}
 
@@ -17,10 +17,11 @@ bytes_eq-self name = (bytes_eq-Decides name name).1 refl
 bytes_eq-other : (a b : Name) → a ≢ b → bytes_eq a b ≡ false
 bytes_eq-other a b apart = false_from_ne_true (bytes_eq a b) (λ e. apart ((bytes_eq-Decides a b).0 e))
 
--- what stands under a name
+-- what was put under a name stands there
 with_stream-same : (streams : Streams) (name : Name) (values : List ℤ) → with_stream streams name values name ≡ values
 with_stream-same streams name values = rw (bytes_eq-self name) refl
 
+-- what stands under other names stays
 with_stream-other : (streams : Streams) (name other : Name) (values : List ℤ) → other ≢ name → with_stream streams name values other ≡ streams other
 with_stream-other streams name other values apart = rw (bytes_eq-other other name apart) refl
 

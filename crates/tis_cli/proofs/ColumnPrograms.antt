@@ -1,25 +1,23 @@
 -- The programs of a column are stages that stand one below the other.
-use Rattle.std.proofs.Common.{◌≡◌, ◌≢◌, ℕ, ◌+◌, ◌*◌, ◌<◌, ◌≤◌, Bool, true, false, List, [], ◌∷◌, length, map, replicate, get_or, Option, Some, None, refl, sym, ap, subst, ◌∙◌, inl, inr, arith}
-use Rattle.std.specs.Prelude.{◌⊎◌, ◌==◌, slice_get, unwrap_or, if◌then◌else◌}
+use Rattle.std.proofs.Common.{◌≡◌, ◌≢◌, ℕ, ◌+◌, ◌<◌, ◌≤◌, Bool, true, false, List, [], ◌∷◌, length, map, replicate, Some, None, refl, sym, ap, subst, ◌∙◌, inl, inr, arith}
+use Rattle.std.specs.Prelude.{◌⊎◌, ◌==◌, unwrap_or, if◌then◌else◌}
 use Rattle.std.specs.List.{range_with_len, list_any}
 use Rattle.std.proofs.lemmas.Bool.{cases_lt, cases_eq, eq-eqb, ne_eqb, lt-ltb}
-use Rattle.std.proofs.lemmas.List.{get_or_past, length-replicate, get_or-replicate}
-use Rattle.std.proofs.lemmas.List.FromFn.{get_or-map-range_with_len, length-map-range_with_len}
+use Rattle.std.proofs.lemmas.List.{get_or_past, get_or-replicate}
+use Rattle.std.proofs.lemmas.List.FromFn.{get_or-map-range_with_len}
 use Rattle.std.proofs.lemmas.Option.{slice_get-get_or}
 use Rattle.tis_base.specs.Tiles.{IsCompute, neighbour_of}
 use Rattle.tis_base.specs.declared.tiles.TileKind.{TileKind}
 use Rattle.tis_base.specs.declared.tiles.TileKind.TheVariants.{Compute}
 use Rattle.tis_base.specs.declared.tiles.Dir.TheVariants.{Down}
 use Rattle.tis_asm.specs.declared.program.Line.{Line}
-use Rattle.tis_asm.specs.Listing.{Listing, IsListing, program_at}
 use Rattle.tis_grid.specs.Puzzle.{Puzzle, Input, Output, IsPuzzle}
 use Rattle.tis_grid.specs.State.{Grid, IsGrid}
-use Rattle.tis_grid.specs.Events.{program_of, next_tile, bottom_of}
-use Rattle.tis_cli.specs.Net.{Net}
+use Rattle.tis_grid.specs.Events.{program_of}
 use Rattle.tis_cli.specs.Column.{Column, IsColumn, plain_board, column_net}
 use Rattle.tis_cli.specs.Compiled.{pass_code, passes, program_for, compiled}
 use Rattle.tis_cli.specs.Carries.{grid_with}
-use Rattle.tis_cli.specs.Stage.{StandsOn, below, StandDown, IsAmong, IsStack}
+use Rattle.tis_cli.specs.Stage.{StandsOn, IsAmong, IsStack}
 use Rattle.tis_cli.proofs.PassStage.{pass_stage}
 
 -- a puzzle on twelve compute tiles
@@ -42,10 +40,11 @@ next-plain tile above = let inside : tile + 4 < 12 = omega arith in rw (lt-ltb (
 program-first : (column : Column) → program_for (column_net column) column.position ≡ pass_code
 program-first column = rw (eq-eqb column.position column.position refl) refl
 
--- the programs of the two tiles that the output passes
+-- the program of the first tile that the output passes
 program-second : (column : Column) → program_for (column_net column) (column.position + 4) ≡ pass_code
 program-second column = rw (ne_eqb column.position (column.position + 4) (λ e. omega arith), eq-eqb (column.position + 4) (column.position + 4) refl) refl
 
+-- the program of the second tile that the output passes
 program-third : (column : Column) → program_for (column_net column) (column.position + 8) ≡ pass_code
 program-third column = rw (ne_eqb column.position (column.position + 8) (λ e. omega arith), ne_eqb (column.position + 4) (column.position + 8) (λ e. omega arith), eq-eqb (column.position + 8) (column.position + 8) refl) refl
 
@@ -89,10 +88,15 @@ column_stack column inputs outputs is_column =
     let third : program_for (column_net column) (column.position + 4 + 4) ≡ pass_code = subst (λ (t : ℕ). program_for (column_net column) t ≡ pass_code) (omega arith) (program-third column) in
     record {
       inside = is_column.position;
-      stand =
-          (stands_pass column inputs outputs column.position (omega arith) (program-first column), next-plain column.position (omega arith),
-          (stands_pass column inputs outputs (column.position + 4) (omega arith) (program-second column), next-plain (column.position + 4) (omega arith),
-          (stands_pass column inputs outputs (column.position + 4 + 4) (omega arith) third, omega arith)));
+      stand = (
+        stands_pass column inputs outputs column.position (omega arith) (program-first column),
+        next-plain column.position (omega arith),
+        (
+          stands_pass column inputs outputs (column.position + 4) (omega arith) (program-second column),
+          next-plain (column.position + 4) (omega arith),
+          (stands_pass column inputs outputs (column.position + 4 + 4) (omega arith) third, omega arith),
+        ),
+      );
       elsewhere = stage_or_none column inputs outputs;
       other_bottoms = λ other inside apart. program-inside column inputs outputs (other + 8) (omega arith) ∙ program-elsewhere column (other + 8) (λ e. omega arith) (λ e. omega arith) (λ e. apart (omega arith));
     }

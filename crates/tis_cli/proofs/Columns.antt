@@ -1,15 +1,15 @@
 -- The programs of a column carry its network.
-use Rattle.std.proofs.Common.{◌≡◌, ◌≢◌, ℕ, ◌+◌, ◌*◌, ◌≤◌, ℤ, List, [], ◌∷◌, length, None, refl, sym, subst, ◌∙◌, inl, inr, arith}
+use Rattle.std.proofs.Common.{◌≡◌, ℕ, ℤ, List, [], ◌∷◌, None, sym, subst, ◌∙◌, inl, inr, arith}
 use Rattle.std.proofs.lemmas.Bool.{cases_eq}
 use Rattle.tis_base.specs.Prefix.{IsPrefixOf}
 use Rattle.tis_base.specs.Tiles.{Board}
 use Rattle.tis_base.proofs.Prefixes.{prefix_refl}
 use Rattle.tis_grid.specs.declared.event.Event.{Event}
-use Rattle.tis_grid.specs.Puzzle.{Puzzle, Input, Output, IsPuzzle, values_at}
-use Rattle.tis_grid.specs.State.{Grid, outs, start}
-use Rattle.tis_grid.specs.Orders.{after, IsLegal, IsAtRest}
-use Rattle.tis_cli.specs.Kahn.{kahn_at, bound}
-use Rattle.tis_cli.specs.Column.{Column, IsColumn, column_net, plain_board}
+use Rattle.tis_grid.specs.Puzzle.{Input, Output, IsPuzzle}
+use Rattle.tis_grid.specs.State.{outs, start}
+use Rattle.tis_grid.specs.Orders.{after, IsLegal}
+use Rattle.tis_cli.specs.Kahn.{kahn_at}
+use Rattle.tis_cli.specs.Column.{Column, IsColumn, column_net}
 use Rattle.tis_cli.specs.Compiled.{compiled}
 use Rattle.tis_cli.specs.Carries.{FitsNet, grid_with, FollowsNet, Carries}
 use Rattle.tis_cli.specs.Stage.{Stage, FollowsStack}
@@ -46,14 +46,14 @@ carries_plain : GridLaws → (column : Column) → IsColumn column → (inputs :
     (events : List Event) → IsLegal (column_grid column inputs outputs) (start (column_grid column inputs outputs)) events → FollowsNet (column_grid column inputs outputs) (column_net column) events
 carries_plain laws column is_column inputs outputs is_puzzle fits events legal =
     from_stack column inputs outputs events is_column fits
-      (follows_stack laws (column_grid column inputs outputs) events (column_is_grid column inputs outputs is_puzzle) legal column.position pass_stage (pass_stage ∷ pass_stage ∷ []) (column_stack column inputs outputs is_column))
+    (follows_stack laws (column_grid column inputs outputs) events (column_is_grid column inputs outputs is_puzzle) legal column.position pass_stage (pass_stage ∷ pass_stage ∷ []) (column_stack column inputs outputs is_column))
 
 -- the programs of a column carry its network, by the laws of every grid
 pub column_carries : GridLaws → (column : Column) → IsColumn column → Carries (compiled (column_net column)) (column_net column)
 column_carries laws column is_column puzzle is_puzzle fits =
     subst
-      (λ (tiles : Board). IsPuzzle (record { tiles = tiles; inputs = puzzle.inputs; outputs = puzzle.outputs }) → FitsNet (record { tiles = tiles; inputs = puzzle.inputs; outputs = puzzle.outputs }) (column_net column) →
-          (events : List Event) → IsLegal (grid_with (record { tiles = tiles; inputs = puzzle.inputs; outputs = puzzle.outputs }) (compiled (column_net column))) (start (grid_with (record { tiles = tiles; inputs = puzzle.inputs; outputs = puzzle.outputs }) (compiled (column_net column)))) events →
-          FollowsNet (grid_with (record { tiles = tiles; inputs = puzzle.inputs; outputs = puzzle.outputs }) (compiled (column_net column))) (column_net column) events)
-      (sym fits.tiles)
-      (carries_plain laws column is_column puzzle.inputs puzzle.outputs) is_puzzle fits
+    (λ (tiles : Board). IsPuzzle (record { tiles = tiles; inputs = puzzle.inputs; outputs = puzzle.outputs }) → FitsNet (record { tiles = tiles; inputs = puzzle.inputs; outputs = puzzle.outputs }) (column_net column) →
+    (events : List Event) → IsLegal (grid_with (record { tiles = tiles; inputs = puzzle.inputs; outputs = puzzle.outputs }) (compiled (column_net column))) (start (grid_with (record { tiles = tiles; inputs = puzzle.inputs; outputs = puzzle.outputs }) (compiled (column_net column)))) events →
+    FollowsNet (grid_with (record { tiles = tiles; inputs = puzzle.inputs; outputs = puzzle.outputs }) (compiled (column_net column))) (column_net column) events)
+    (sym fits.tiles)
+    (carries_plain laws column is_column puzzle.inputs puzzle.outputs) is_puzzle fits

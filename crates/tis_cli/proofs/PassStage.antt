@@ -1,14 +1,14 @@
 -- The program that passes values on is a stage.
-use Rattle.std.proofs.Common.{◌≡◌, ℕ, ◌≤◌, ℤ, Bool, List, [], ◌∷◌, ◌++◌, Some, refl, sym, ◌∙◌, append-nil, arith}
+use Rattle.std.proofs.Common.{◌≡◌, ℕ, ℤ, List, ◌++◌, Some, refl, sym, ◌∙◌, append-nil, arith}
 use Rattle.std.specs.Prelude.{IsTrue}
 use Rattle.tis_base.specs.declared.tiles.Dir.{Dir}
-use Rattle.tis_base.specs.declared.tiles.Dir.TheVariants.{Left, Right, Up, Down}
-use Rattle.tis_asm.specs.Node.{Node, Mode, Ready, Writing, Toward, One, Any, instr_at, wants_in, offers_in}
-use Rattle.tis_asm.specs.PortRuns.{Step, taken_from, given_to, own_count}
-use Rattle.tis_asm.specs.Passing.{in_hand, IsOne, WaitsAt, Passes}
+use Rattle.tis_base.specs.declared.tiles.Dir.TheVariants.{Up, Down}
+use Rattle.tis_asm.specs.Node.{Node, Mode, Ready, Writing, One, Any, instr_at, wants_in, offers_in}
+use Rattle.tis_asm.specs.PortRuns.{Step, taken_from, given_to}
+use Rattle.tis_asm.specs.Passing.{in_hand, WaitsAt, Passes}
 use Rattle.tis_asm.proofs.Passing.{moves_pass_values}
 use Rattle.tis_cli.specs.Compiled.{pass_code}
-use Rattle.tis_cli.specs.Stage.{Next, GoesOn, WaitsAbove, GivesBelow, WorksAs, IsStage, Stage}
+use Rattle.tis_cli.specs.Stage.{Next, WaitsAbove, GivesBelow, WorksAs, Stage}
 
 -- a node that waits for more has nothing in hand
 nothing_in_hand : (mode : Mode) (pc : ℕ) (given taken : List ℤ) → given ++ in_hand mode ≡ taken → IsTrue (wants_in mode (instr_at pass_code pc) Up) → given ≡ taken

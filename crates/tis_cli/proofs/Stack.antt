@@ -1,27 +1,25 @@
 -- Stages that stand one below the other carry what all of them make, whatever the order of the events.
-use Rattle.std.proofs.Common.{◌≡◌, ◌≢◌, ℕ, zero, suc, ◌+◌, ◌-◌, ◌*◌, ◌<◌, ◌≤◌, ℤ, Bool, List, [], ◌∷◌, ◌++◌, length, map, drop, replicate, get_or, length-append, Option, Some, None, refl, sym, ap, subst, subst₂, ◌∙◌, inl, inr, append-nil, le_trans, arith}
-use Rattle.std.specs.Prelude.{IsTrue, ◌⊎◌, All, sum_by}
+use Rattle.std.proofs.Common.{◌≡◌, ◌≢◌, ℕ, zero, suc, ◌+◌, ◌-◌, ◌*◌, ◌<◌, ◌≤◌, ℤ, List, [], ◌∷◌, ◌++◌, length, replicate, get_or, Some, refl, sym, ap, subst, subst₂, ◌∙◌, inl, inr, append-nil, le_trans, arith}
+use Rattle.std.specs.Prelude.{IsTrue}
 use Rattle.std.specs.List.{range_with_len}
-use Rattle.std.proofs.lemmas.Bool.{cases_lt, cases_eq}
+use Rattle.std.proofs.lemmas.Bool.{cases_lt}
 use Rattle.std.proofs.lemmas.List.{get_or_past, drop_all}
 use Rattle.std.proofs.lemmas.List.FromFn.{get_or-map-range_with_len, length-range_with_len}
 use Rattle.std.proofs.lemmas.List.Sums.{sum_by-le}
 use Rattle.tis_base.specs.Prefix.{IsPrefixOf}
 use Rattle.tis_base.specs.Tiles.{IsCompute}
-use Rattle.tis_base.specs.declared.tiles.Dir.{Dir}
 use Rattle.tis_base.specs.declared.tiles.Dir.TheVariants.{Left, Right, Up, Down}
-use Rattle.tis_base.specs.declared.tiles.Tile.{Tile}
 use Rattle.tis_base.proofs.Prefixes.{prefix_refl, prefix_trans, prefix_length}
 use Rattle.tis_asm.specs.declared.program.Line.{Line}
 use Rattle.tis_asm.specs.Node.{Node, fresh, wants}
-use Rattle.tis_asm.specs.PortRuns.{Step, IsPortRun, after_steps, taken_from, given_to, own_count}
+use Rattle.tis_asm.specs.PortRuns.{Step, IsPortRun, after_steps, taken_from, given_to}
 use Rattle.tis_asm.proofs.Passing.{empty_programs_rest}
 use Rattle.tis_asm.proofs.Counting.{steps_add_up}
 use Rattle.tis_grid.specs.declared.event.Event.{Event}
 use Rattle.tis_grid.specs.declared.event.Event.TheVariants.{Local, Meet, In, Out}
 use Rattle.tis_grid.specs.Puzzle.{HasOutput, values_at}
 use Rattle.tis_grid.specs.State.{Grid, IsGrid, State, node_at, left_at, outs, start}
-use Rattle.tis_grid.specs.Events.{program_of, next_tile, bottom_of, Wants, Offers, IsEnabled, after_event}
+use Rattle.tis_grid.specs.Events.{program_of, next_tile, bottom_of, Wants, Offers, after_event}
 use Rattle.tis_grid.specs.Orders.{Fits, after, IsLegal, IsAtRest}
 use Rattle.tis_grid.specs.OwnSteps.{steps_of, values_left}
 use Rattle.tis_grid.specs.Laws.{IsOrder}
