@@ -1,5 +1,5 @@
 -- Answers that may also be want of memory.
-use Rattle.std.specs.Prelude.{◌≡◌, Option, Some, None, Result, Ok, Err, IfSome}
+use Rattle.std.specs.Prelude.{◌≡◌, Option, Result, Ok, Err, IfSome}
 
 -- The call gives what the definition gives, unless memory ran out. `view` is what contracts see of a value, and `cause` is the definition's refusal that an error stands for, None for want of memory.
 abbrev pub Gives : {X Y E F : Type 0} → (X → Y) → (E → Option F) → Result X E → Result Y F → Type 0

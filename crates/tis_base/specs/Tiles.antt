@@ -1,5 +1,5 @@
 -- The grid of tiles, numbered from 0 in reading order.
-use Rattle.std.specs.Prelude.{◌≡◌, ℕ, ◌+◌, ◌-◌, ◌*◌, ◌%◌, ◌<◌, Bool, true, false, List, length, Option, Some, None, option_map, count_by, slice_get, take, nat_lt, nat_le, if◌then◌else◌}
+use Rattle.std.specs.Prelude.{◌≡◌, ℕ, ◌+◌, ◌-◌, ◌*◌, ◌%◌, ◌<◌, Bool, true, false, List, length, Option, Some, None, count_by, slice_get, take, nat_lt, nat_le, if◌then◌else◌}
 use Rattle.tis_base.specs.declared.tiles.Dir.{Dir}
 use Rattle.tis_base.specs.declared.tiles.Dir.TheVariants.{Left, Right, Up, Down}
 use Rattle.tis_base.specs.declared.tiles.Shape.{Shape}

@@ -1,5 +1,5 @@
 -- Networks of processes, joined by first-in first-out channels (Kahn 1974), with where they are to stand.
-use Rattle.std.specs.Prelude.{ℕ, ◌≤◌, Bool, true, false, ◌&&◌, ◌||◌, List, [], ◌∷◌, length, Option, nat_le, IsTrue, ◌==◌}
+use Rattle.std.specs.Prelude.{ℕ, Bool, false, ◌&&◌, ◌||◌, List, [], ◌∷◌, length, Option, nat_le, IsTrue, ◌==◌}
 use Rattle.std.specs.List.{list_all}
 use Rattle.tis_base.specs.Tiles.{Board}
 
