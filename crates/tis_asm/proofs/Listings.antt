@@ -1,6 +1,5 @@
 -- What each program of a listing keeps.
-use Rattle.std.proofs.Common.{◌≡◌, ℕ, zero, suc, List, [], length, replicate, get_or, refl}
-use Rattle.tis_asm.specs.declared.program.Line.{Line}
+use Rattle.std.proofs.Common.{◌≡◌, ℕ, zero, suc, [], replicate, refl}
 use Rattle.tis_asm.specs.Listing.{program_at}
 
 pub program_at-replicate : (count tile : ℕ) → program_at (replicate count []) tile ≡ []

@@ -4,7 +4,6 @@ use Rattle.std.specs.Prelude.{slice_get}
 use Rattle.tis_asm.specs.declared.program.Line.{Line}
 use Rattle.tis_asm.specs.Code.{line_text, code_text}
 
-
 text_more : (program : List Line) (index : ℕ) (line : Line) → slice_get program index ≡ Some line → code_text (take (suc index) program) ≡ code_text (take index program) ++ line_text line ++ 10 ∷ []
 text_more [] index line found = absurd cc
 text_more (first ∷ program) zero line found = ap (λ (l : Line). line_text l ++ 10 ∷ []) cc

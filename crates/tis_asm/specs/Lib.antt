@@ -3,3 +3,5 @@ pub mod Code
 pub mod Assembling
 pub mod Node
 pub mod PortRuns
+pub mod Passing
+pub mod Counting

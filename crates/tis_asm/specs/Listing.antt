@@ -1,6 +1,6 @@
 -- Programs, and one for each tile.
-use Rattle.std.specs.Prelude.{◌≡◌, ◌≢◌, ℕ, ◌≤◌, List, [], length, Some, slice_get, All, get_or}
-use Rattle.tis_base.specs.Tiles.{Board, IsCompute}
+use Rattle.std.specs.Prelude.{◌≡◌, ◌≢◌, ℕ, ◌≤◌, List, [], length, Some, slice_get, get_or}
+use Rattle.tis_base.specs.Tiles.{Board}
 use Rattle.tis_base.specs.declared.tiles.TileKind.TheVariants.{Compute}
 use Rattle.tis_asm.specs.declared.program.Line.{Line}
 

@@ -2,11 +2,13 @@
 #![tactic(auto)]
 
 mod instr;
+mod laws;
 mod program;
 mod programs;
 mod text;
 
 pub use instr::{Dest, Instr, Source};
+pub use laws::{empty_programs_rest, moves_pass_values, steps_add_up};
 pub use program::Program;
 pub use programs::Programs;
 pub use text::print;

@@ -1,3 +1,4 @@
 pub mod Texts
 pub mod Writes
 pub mod Always
+pub mod Prefixes

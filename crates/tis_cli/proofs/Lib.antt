@@ -5,3 +5,9 @@ pub mod Blocks
 pub mod Emitted
 pub mod Explained
 pub mod Statuses
+pub mod GridLaws
+pub mod PassStage
+pub mod Stack
+pub mod ColumnKahn
+pub mod ColumnPrograms
+pub mod Columns

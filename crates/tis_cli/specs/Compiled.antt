@@ -1,5 +1,5 @@
 -- The programs that a network is compiled to.
-use Rattle.std.specs.Prelude.{ℕ, Bool, true, false, List, [], ◌∷◌, ◌++◌, length, map, Option, Some, None, unwrap_or, ◌==◌, if◌then◌else◌}
+use Rattle.std.specs.Prelude.{ℕ, Bool, false, List, [], ◌∷◌, ◌++◌, length, map, Option, Some, None, unwrap_or, ◌==◌, if◌then◌else◌}
 use Rattle.std.specs.List.{list_any, range_with_len}
 use Rattle.tis_base.specs.declared.tiles.Dir.TheVariants.{Up, Down}
 use Rattle.tis_asm.specs.declared.instr.Source.TheVariants as from

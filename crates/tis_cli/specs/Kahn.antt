@@ -1,5 +1,5 @@
 -- The streams of a network: the one solution of Kahn's equations, found in text order, since nothing is fed back.
-use Rattle.std.specs.Prelude.{ℕ, ◌+◌, ◌*◌, ℤ, List, [], ◌∷◌, ◌++◌, length, map, sum_by, Option, Some, None, ◌==◌, if◌then◌else◌}
+use Rattle.std.specs.Prelude.{ℕ, ◌+◌, ◌*◌, ℤ, List, [], ◌∷◌, ◌++◌, length, map, sum_by, ◌==◌, if◌then◌else◌}
 use Rattle.tis_grid.specs.Puzzle.{Input, values_at}
 use Rattle.tis_cli.specs.Net.{Name, PortLine, Process, Net}
 use Rattle.tis_cli.specs.Process.{Streams, with_stream, Outcome, rounds, beginning, reads, cost}

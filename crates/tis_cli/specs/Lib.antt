@@ -10,3 +10,4 @@ pub mod Kahn
 pub mod Carries
 pub mod Outcomes
 pub mod Spoken
+pub mod Stage

@@ -5,7 +5,7 @@ use Rattle.tis_base.specs.Lines.{text_of_lines}
 use Rattle.tis_base.specs.Tiles.{Board}
 use Rattle.tis_base.specs.declared.tiles.TileKind.{TileKind}
 use Rattle.tis_base.specs.declared.tiles.TileKind.TheVariants.{Compute, Memory, Damaged}
-use Rattle.tis_cli.specs.Net.{Name, Statement, Move, PortLine, ChannelLine, Process, Net}
+use Rattle.tis_cli.specs.Net.{Statement, Move, PortLine, ChannelLine, Process, Net}
 
 -- a line as its words
 abbrev pub Words : Type 0

@@ -1,13 +1,11 @@
 -- The canonical save of a listing, and the listing that a save gives.
-use Rattle.std.specs.Prelude.{ℕ, ◌+◌, Bool, true, false, not, List, [], ◌∷◌, ◌++◌, length, map, flat_map, take_while, Result, Ok, Err, ◌==◌, decimal, if◌then◌else◌}
+use Rattle.std.specs.Prelude.{ℕ, Bool, false, not, List, [], ◌∷◌, ◌++◌, length, flat_map, take_while, ◌==◌, decimal, if◌then◌else◌}
 use Rattle.std.specs.List.{range_with_len}
 use Rattle.std.specs.Str.{bytes_eq}
-use Rattle.tis_base.specs.Lines.{text_lines}
 use Rattle.tis_base.specs.Tiles.{Board, block_of}
 use Rattle.tis_asm.specs.declared.program.Line.{Line}
 use Rattle.tis_asm.specs.Listing.{Listing, program_at}
 use Rattle.tis_asm.specs.Code.{code_text}
-use Rattle.tis_asm.specs.Assembling.{AsmRefusal, assembled_lines}
 
 -- the line before the block of a tile: `@` and how many compute tiles stand before it
 abbrev pub head_of : Board → ℕ → List ℕ

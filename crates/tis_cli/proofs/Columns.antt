@@ -1,0 +1,59 @@
+-- The programs of a column carry its network.
+use Rattle.std.proofs.Common.{◌≡◌, ℕ, ℤ, List, [], ◌∷◌, None, sym, subst, ◌∙◌, inl, inr, arith}
+use Rattle.std.proofs.lemmas.Bool.{cases_eq}
+use Rattle.tis_base.specs.Prefix.{IsPrefixOf}
+use Rattle.tis_base.specs.Tiles.{Board}
+use Rattle.tis_base.proofs.Prefixes.{prefix_refl}
+use Rattle.tis_grid.specs.declared.event.Event.{Event}
+use Rattle.tis_grid.specs.Puzzle.{Input, Output, IsPuzzle}
+use Rattle.tis_grid.specs.State.{outs, start}
+use Rattle.tis_grid.specs.Orders.{after, IsLegal}
+use Rattle.tis_cli.specs.Kahn.{kahn_at}
+use Rattle.tis_cli.specs.Column.{Column, IsColumn, column_net}
+use Rattle.tis_cli.specs.Compiled.{compiled}
+use Rattle.tis_cli.specs.Carries.{FitsNet, grid_with, FollowsNet, Carries}
+use Rattle.tis_cli.specs.Stage.{Stage, FollowsStack}
+use Rattle.tis_cli.proofs.GridLaws.{GridLaws}
+use Rattle.tis_cli.proofs.PassStage.{pass_stage}
+use Rattle.tis_cli.proofs.Stack.{follows_stack}
+use Rattle.tis_cli.proofs.ColumnKahn.{kahn_at-column, kahn_at-other, bound-column}
+use Rattle.tis_cli.proofs.ColumnPrograms.{plain_puzzle, column_grid, column_stack, column_is_grid}
+
+-- the three stages of a column
+abbrev three_passes : List Stage
+three_passes = pass_stage ∷ pass_stage ∷ pass_stage ∷ []
+
+-- what follows the stages follows the network
+from_stack : (column : Column) (inputs : List Input) (outputs : List Output) (events : List Event) → IsColumn column → FitsNet (plain_puzzle inputs outputs) (column_net column) →
+    FollowsStack (column_grid column inputs outputs) column.position three_passes events → FollowsNet (column_grid column inputs outputs) (column_net column) events
+from_stack column inputs outputs events is_column fits follows =
+    record {
+      prefixes = λ position. elim (cases_eq position column.position) [
+        | inl here ↦ subst (λ (p : ℕ). IsPrefixOf (outs (after (column_grid column inputs outputs) (start (column_grid column inputs outputs)) events) p) (kahn_at (column_net column) inputs p)) (sym here)
+            (subst (λ (stream : List ℤ). IsPrefixOf (outs (after (column_grid column inputs outputs) (start (column_grid column inputs outputs)) events) column.position) stream) (sym (kahn_at-column column inputs is_column)) follows.front)
+        | inr elsewhere ↦ prefix_refl _ _ (follows.others position elsewhere ∙ sym (kahn_at-other column inputs position elsewhere))
+      ];
+      bounded = omega (arith, follows.bounded, bound-column column inputs);
+      whole = λ rest position. elim (cases_eq position column.position) [
+        | inl here ↦ subst (λ (p : ℕ). outs (after (column_grid column inputs outputs) (start (column_grid column inputs outputs)) events) p ≡ kahn_at (column_net column) inputs p) (sym here)
+            (follows.whole (fits.outputs 0 (record { name = column.output; position = column.position; via = None }) (omega arith)) rest ∙ sym (kahn_at-column column inputs is_column))
+        | inr elsewhere ↦ follows.others position elsewhere ∙ sym (kahn_at-other column inputs position elsewhere)
+      ];
+    }
+
+-- on twelve compute tiles
+carries_plain : GridLaws → (column : Column) → IsColumn column → (inputs : List Input) (outputs : List Output) → IsPuzzle (plain_puzzle inputs outputs) → FitsNet (plain_puzzle inputs outputs) (column_net column) →
+    (events : List Event) → IsLegal (column_grid column inputs outputs) (start (column_grid column inputs outputs)) events → FollowsNet (column_grid column inputs outputs) (column_net column) events
+carries_plain laws column is_column inputs outputs is_puzzle fits events legal =
+    from_stack column inputs outputs events is_column fits
+    (follows_stack laws (column_grid column inputs outputs) events (column_is_grid column inputs outputs is_puzzle) legal column.position pass_stage (pass_stage ∷ pass_stage ∷ []) (column_stack column inputs outputs is_column))
+
+-- the programs of a column carry its network, by the laws of every grid
+pub column_carries : GridLaws → (column : Column) → IsColumn column → Carries (compiled (column_net column)) (column_net column)
+column_carries laws column is_column puzzle is_puzzle fits =
+    subst
+    (λ (tiles : Board). IsPuzzle (record { tiles = tiles; inputs = puzzle.inputs; outputs = puzzle.outputs }) → FitsNet (record { tiles = tiles; inputs = puzzle.inputs; outputs = puzzle.outputs }) (column_net column) →
+    (events : List Event) → IsLegal (grid_with (record { tiles = tiles; inputs = puzzle.inputs; outputs = puzzle.outputs }) (compiled (column_net column))) (start (grid_with (record { tiles = tiles; inputs = puzzle.inputs; outputs = puzzle.outputs }) (compiled (column_net column)))) events →
+    FollowsNet (grid_with (record { tiles = tiles; inputs = puzzle.inputs; outputs = puzzle.outputs }) (compiled (column_net column))) (column_net column) events)
+    (sym fits.tiles)
+    (carries_plain laws column is_column puzzle.inputs puzzle.outputs) is_puzzle fits
