@@ -1,0 +1,92 @@
+-- What the steps of one tile give to its ports and take from them.
+use Rattle.std.proofs.Common.{◌≡◌, ◌≢◌, ℕ, ℤ, Bool, true, false, cond, eqb, List, [], ◌∷◌, ◌++◌, length, refl, sym, ap, ◌∙◌, append_assoc, eqb-true, eq-eqb, ne_eqb}
+use Rattle.std.proofs.lemmas.Bool.{cond_both, cond-false, false_from_ne_true}
+use Rattle.std.proofs.lemmas.List.{append-nil}
+use Rattle.tis_base.specs.Tiles.{opposite}
+use Rattle.tis_base.specs.declared.tiles.Dir.{Dir}
+use Rattle.tis_base.specs.declared.tiles.Dir.TheVariants.{Left, Right, Up, Down}
+use Rattle.tis_asm.specs.Node.{is_same_dir}
+use Rattle.tis_asm.specs.PortRuns.{Step, Own, Took, Gave, taken_from, given_to}
+use Rattle.tis_grid.specs.OwnSteps.{step_at}
+
+-- ---- directions
+
+-- the test says that they are the same
+pub same_dir : (a b : Dir) → is_same_dir a b ≡ true → a ≡ b
+same_dir Left Left is = refl
+same_dir Right Right is = refl
+same_dir Up Up is = refl
+same_dir Down Down is = refl
+same_dir _ _ is = cc
+
+pub same_opposite : (a b : Dir) → is_same_dir (opposite a) (opposite b) ≡ is_same_dir a b
+same_opposite Left Left = refl
+same_opposite Right Right = refl
+same_opposite Up Up = refl
+same_opposite Down Down = refl
+same_opposite _ _ = refl
+
+pub opposite_twice : (dir : Dir) → opposite (opposite dir) ≡ dir
+opposite_twice Left = refl
+opposite_twice Right = refl
+opposite_twice Up = refl
+opposite_twice Down = refl
+
+-- ---- steps of one tile and of another
+
+pub own_step : (tile : ℕ) (step : Step) → step_at tile tile step ≡ step ∷ []
+own_step tile step = ap (λ b. cond b (step ∷ []) []) (eq-eqb tile tile refl)
+
+pub other_step : (tile other : ℕ) (step : Step) → (other ≡ tile → ⊥) → step_at tile other step ≡ []
+other_step tile other step apart = ap (λ b. cond b (step ∷ []) []) (ne_eqb other tile apart)
+
+-- what holds of a step alone where it is one of this tile, and else of none
+pub step_cases : (P : List Step → Type 0) (tile other : ℕ) (step : Step) → (other ≡ tile → P (step ∷ [])) → ((other ≡ tile → ⊥) → P []) → P (step_at tile other step)
+step_cases P tile other step here elsewhere = cond_both (eqb other tile) (step ∷ []) [] P (λ is. here (eqb-true other tile is)) (λ is. elsewhere (λ same. false_is other tile is same))
+  where
+    false_is : (a b : ℕ) → eqb a b ≡ false → a ≡ b → ⊥
+    false_is a b is same = cc (is, eq-eqb a b same)
+
+-- ---- what steps give and take, one list after another
+
+pub given_append : (dir : Dir) (steps more : List Step) → given_to dir (steps ++ more) ≡ given_to dir steps ++ given_to dir more
+given_append dir [] more = refl
+given_append dir (Own ∷ steps) more = given_append dir steps more
+given_append dir (Took port value ∷ steps) more = given_append dir steps more
+given_append dir (Gave port value ∷ steps) more =
+    cond_both (is_same_dir port dir) (value ∷ []) [] (λ given. given ++ given_to dir (steps ++ more) ≡ given ++ given_to dir steps ++ given_to dir more)
+    (λ same. ap (λ rest. value ∷ rest) (given_append dir steps more)) (λ apart. given_append dir steps more)
+
+pub taken_append : (dir : Dir) (steps more : List Step) → taken_from dir (steps ++ more) ≡ taken_from dir steps ++ taken_from dir more
+taken_append dir [] more = refl
+taken_append dir (Own ∷ steps) more = taken_append dir steps more
+taken_append dir (Gave port value ∷ steps) more = taken_append dir steps more
+taken_append dir (Took port value ∷ steps) more =
+    cond_both (is_same_dir port dir) (value ∷ []) [] (λ taken. taken ++ taken_from dir (steps ++ more) ≡ taken ++ taken_from dir steps ++ taken_from dir more)
+    (λ same. ap (λ rest. value ∷ rest) (taken_append dir steps more)) (λ apart. taken_append dir steps more)
+
+-- ---- what one step gives and takes
+
+pub own_gives_none : (dir : Dir) (tile other : ℕ) → given_to dir (step_at tile other Own) ≡ []
+own_gives_none dir tile other = step_cases (λ steps. given_to dir steps ≡ []) tile other Own (λ same. refl) (λ apart. refl)
+
+pub own_takes_none : (dir : Dir) (tile other : ℕ) → taken_from dir (step_at tile other Own) ≡ []
+own_takes_none dir tile other = step_cases (λ steps. taken_from dir steps ≡ []) tile other Own (λ same. refl) (λ apart. refl)
+
+pub took_gives_none : (dir : Dir) (tile other : ℕ) (port : Dir) (value : ℤ) → given_to dir (step_at tile other (Took port value)) ≡ []
+took_gives_none dir tile other port value = step_cases (λ steps. given_to dir steps ≡ []) tile other (Took port value) (λ same. refl) (λ apart. refl)
+
+pub gave_takes_none : (dir : Dir) (tile other : ℕ) (port : Dir) (value : ℤ) → taken_from dir (step_at tile other (Gave port value)) ≡ []
+gave_takes_none dir tile other port value = step_cases (λ steps. taken_from dir steps ≡ []) tile other (Gave port value) (λ same. refl) (λ apart. refl)
+
+-- a step of another tile, or at another port, gives nothing to this port of this tile
+pub gives_none : (dir : Dir) (tile other : ℕ) (port : Dir) (value : ℤ) → (other ≡ tile → port ≡ dir → ⊥) → given_to dir (step_at tile other (Gave port value)) ≡ []
+gives_none dir tile other port value apart =
+    step_cases (λ steps. given_to dir steps ≡ []) tile other (Gave port value)
+    (λ same. ap (λ b. cond b (value ∷ []) [] ++ []) (false_from_ne_true (is_same_dir port dir) (λ is. apart same (same_dir port dir is)))) (λ elsewhere. refl)
+
+-- nor does it take anything from there
+pub takes_none : (dir : Dir) (tile other : ℕ) (port : Dir) (value : ℤ) → (other ≡ tile → port ≡ dir → ⊥) → taken_from dir (step_at tile other (Took port value)) ≡ []
+takes_none dir tile other port value apart =
+    step_cases (λ steps. taken_from dir steps ≡ []) tile other (Took port value)
+    (λ same. ap (λ b. cond b (value ∷ []) [] ++ []) (false_from_ne_true (is_same_dir port dir) (λ is. apart same (same_dir port dir is)))) (λ elsewhere. refl)
