@@ -1,7 +1,6 @@
 -- What the steps of one tile give to its ports and take from them.
-use Rattle.std.proofs.Common.{◌≡◌, ◌≢◌, ℕ, ℤ, Bool, true, false, cond, eqb, List, [], ◌∷◌, ◌++◌, length, refl, sym, ap, ◌∙◌, append_assoc, eqb-true, eq-eqb, ne_eqb}
-use Rattle.std.proofs.lemmas.Bool.{cond_both, cond-false, false_from_ne_true}
-use Rattle.std.proofs.lemmas.List.{append-nil}
+use Rattle.std.proofs.Common.{◌≡◌, ◌≢◌, ℕ, ℤ, Bool, true, false, cond, eqb, List, [], ◌∷◌, ◌++◌, inl, inr, refl, sym, ap, ◌∙◌, subst,  eqb-true, eq-eqb, ne_eqb}
+use Rattle.std.proofs.lemmas.Bool.{cond_both, false_from_ne_true, cases_Bool, cases_eq}
 use Rattle.tis_base.specs.Tiles.{opposite}
 use Rattle.tis_base.specs.declared.tiles.Dir.{Dir}
 use Rattle.tis_base.specs.declared.tiles.Dir.TheVariants.{Left, Right, Up, Down}
@@ -19,13 +18,13 @@ same_dir Up Up is = refl
 same_dir Down Down is = refl
 same_dir _ _ is = cc
 
-pub same_opposite : (a b : Dir) → is_same_dir (opposite a) (opposite b) ≡ is_same_dir a b
-same_opposite Left Left = refl
-same_opposite Right Right = refl
-same_opposite Up Up = refl
-same_opposite Down Down = refl
-same_opposite _ _ = refl
+same_self : (dir : Dir) → is_same_dir dir dir ≡ true
+same_self Left = refl
+same_self Right = refl
+same_self Up = refl
+same_self Down = refl
 
+-- the direction from the other side, seen from the other side
 pub opposite_twice : (dir : Dir) → opposite (opposite dir) ≡ dir
 opposite_twice Left = refl
 opposite_twice Right = refl
@@ -90,3 +89,35 @@ pub takes_none : (dir : Dir) (tile other : ℕ) (port : Dir) (value : ℤ) → (
 takes_none dir tile other port value apart =
     step_cases (λ steps. taken_from dir steps ≡ []) tile other (Took port value)
     (λ same. ap (λ b. cond b (value ∷ []) [] ++ []) (false_from_ne_true (is_same_dir port dir) (λ is. apart same (same_dir port dir is)))) (λ elsewhere. refl)
+
+-- a step of this tile at this port gives its value
+pub gives_here : (dir : Dir) (tile other : ℕ) (port : Dir) (value : ℤ) → other ≡ tile → port ≡ dir → given_to dir (step_at tile other (Gave port value)) ≡ value ∷ []
+gives_here dir tile other port value same is =
+    subst (λ (t : ℕ). given_to dir (step_at t other (Gave port value)) ≡ value ∷ []) same
+    (subst (λ (d : Dir). given_to d (step_at other other (Gave port value)) ≡ value ∷ []) is
+    (ap (given_to port) (own_step other (Gave port value)) ∙ ap (λ b. cond b (value ∷ []) [] ++ []) (same_self port)))
+
+-- or takes it
+pub takes_here : (dir : Dir) (tile other : ℕ) (port : Dir) (value : ℤ) → other ≡ tile → port ≡ dir → taken_from dir (step_at tile other (Took port value)) ≡ value ∷ []
+takes_here dir tile other port value same is =
+    subst (λ (t : ℕ). taken_from dir (step_at t other (Took port value)) ≡ value ∷ []) same
+    (subst (λ (d : Dir). taken_from d (step_at other other (Took port value)) ≡ value ∷ []) is
+    (ap (taken_from port) (own_step other (Took port value)) ∙ ap (λ b. cond b (value ∷ []) [] ++ []) (same_self port)))
+
+-- what a giver gives to a port, a taker takes on the other side, where the two are the two ends or neither is
+pub meeting_passes : (dir port : Dir) (tile giver reader taker : ℕ) (value : ℤ) → (port ≡ dir → giver ≡ tile → taker ≡ reader) → (port ≡ dir → taker ≡ reader → giver ≡ tile) → given_to dir (step_at tile giver (Gave port value)) ≡ taken_from (opposite dir) (step_at reader taker (Took (opposite port) value))
+meeting_passes dir port tile giver reader taker value to_reader to_tile =
+    elim (cases_Bool (is_same_dir port dir)) [
+      | inl same ↦ let is : port ≡ dir = same_dir port dir same in elim (cases_eq giver tile) [
+        | inl here ↦ gives_here dir tile giver port value here is ∙ sym (takes_here (opposite dir) reader taker (opposite port) value (to_reader is here) (ap opposite is))
+        | inr elsewhere ↦ neither (λ at is. elsewhere at) (λ at is. elsewhere (to_tile is at))
+      ]
+      | inr other ↦ neither (λ at is. apart other is) (λ at is. apart other is)
+    ]
+  where
+    apart : is_same_dir port dir ≡ false → port ≡ dir → ⊥
+    apart other is = let same : is_same_dir port dir ≡ true = ap (is_same_dir port) (sym is) ∙ same_self port in cc (other, same)
+    back : opposite port ≡ opposite dir → port ≡ dir
+    back is = sym (opposite_twice port) ∙ ap opposite is ∙ opposite_twice dir
+    neither : (giver ≡ tile → port ≡ dir → ⊥) → (taker ≡ reader → port ≡ dir → ⊥) → given_to dir (step_at tile giver (Gave port value)) ≡ taken_from (opposite dir) (step_at reader taker (Took (opposite port) value))
+    neither no_giver no_taker = gives_none dir tile giver port value no_giver ∙ sym (takes_none (opposite dir) reader taker (opposite port) value (λ at is. no_taker at (back is)))
