@@ -1,5 +1,5 @@
 -- What one or two acting tiles leave of each tile's node.
-use Rattle.std.proofs.Common.{◌≡◌, ◌≢◌, ℕ, ◌<◌, List, [], ◌∷◌, ◌++◌, length, get_or, set, inl, inr, refl, sym, ap, ◌∙◌, subst, arith}
+use Rattle.std.proofs.Common.{◌≡◌, ◌≢◌, ℕ, ◌<◌, List, [], ◌∷◌, ◌++◌, length, get_or, set, inl, inr, sym, ap, ◌∙◌, subst, arith}
 use Rattle.std.proofs.lemmas.Bool.{cases_eq}
 use Rattle.std.proofs.lemmas.List.{append-nil, get_or-set_same, get_or-set_other, length-set}
 use Rattle.tis_asm.specs.declared.program.Line.{Line}
@@ -38,12 +38,15 @@ module _ (program : ℕ → List Line) where
         | inr elsewhere ↦ other elsewhere
       ]
     where
+      -- the node of the tile that acts makes its step
       own : Does (program actor) (node_of nodes actor) (step_at actor actor step) (node_of (stepped program nodes actor step) actor)
       own =
           let steps = own_step actor step in
           let after = get_or-set_same nodes actor (after_step (program actor) (node_of nodes actor) step) fresh within in
           subst (λ (s : List Step). Does (program actor) (node_of nodes actor) s (node_of (stepped program nodes actor step) actor)) (sym steps)
           (subst (λ (n : Node). Does (program actor) (node_of nodes actor) (step ∷ []) n) (sym after) (does_one (program actor) (node_of nodes actor) step is))
+
+      -- the node of another tile stays
       other : (actor ≡ tile → ⊥) → Does (program tile) (node_of nodes tile) (step_at tile actor step) (node_of (stepped program nodes actor step) tile)
       other elsewhere =
           let steps = other_step tile actor step elsewhere in

@@ -1,5 +1,5 @@
 -- Each event is a step of some tile.
-use Rattle.std.proofs.Common.{◌≡◌, ℕ, suc, ◌+◌, ◌<◌, ◌≤◌, List, [], ◌∷◌, ◌++◌, length, get_or, sum_by, refl, sym, ap, ◌∙◌, subst, arith, length-append}
+use Rattle.std.proofs.Common.{◌≡◌, ℕ, ◌+◌, ◌<◌, ◌≤◌, List, [], ◌∷◌, ◌++◌, length, get_or, sum_by, refl, ap, ◌∙◌, subst, arith, length-append}
 use Rattle.std.specs.List.{range_with_len}
 use Rattle.std.proofs.lemmas.List.FromFn.{length-range_with_len, get_or-range_with_len}
 use Rattle.std.proofs.lemmas.List.Sums.{sum_by-cons, get_or-le-sum_by, sum_by-le-sum_by}
@@ -37,13 +37,16 @@ record Actor (grid : Grid) (state : State) (event : Event) : Type 0 where
   within : tile < length grid.puzzle.tiles.kinds
   some : 1 ≤ length (steps_in grid state event tile)
 
+-- a compute tile has a kind
 compute_below : (grid : Grid) (tile : ℕ) → IsCompute grid.puzzle.tiles tile → tile < length grid.puzzle.tiles.kinds
 compute_below grid tile compute = slice_get_within grid.puzzle.tiles.kinds tile Compute compute
 
+-- a step of a tile is one step of it
 one_step : (tile : ℕ) (step : Step) → 1 ≤ length (step_at tile tile step)
 one_step tile step = let one : length (step_at tile tile step) ≡ 1 = ap length (own_step tile step) in omega arith
 
 module _ (grid : Grid) where
+  -- each event is a step of the tile that it names
   actor : (state : State) (event : Event) → IsEnabled grid state event → Actor grid state event
   actor state (Local at) is = record { tile = at.number; within = compute_below grid at.number is.0; some = one_step at.number Own }
   actor state (Meet at dir) is =
@@ -60,6 +63,7 @@ module _ (grid : Grid) where
   actor state (Push at dir) is = record { tile = at.number; within = compute_below grid at.number is.2.compute; some = one_step at.number (Gave dir (offered state at.number dir)) }
   actor state (Pop at dir) is = record { tile = at.number; within = compute_below grid at.number is.2.compute; some = one_step at.number (Took dir (newest (stack_at state (reached grid at.number dir)))) }
 
+  -- the tiles together make as many steps as there are events, or more
   pub order_counts : (state : State) (events : List Event) → IsLegal grid state events → length events ≤ sum_by (λ tile. length (steps_of grid state events tile)) (range_with_len 0 (length grid.puzzle.tiles.kinds))
   order_counts state [] legal = omega arith
   order_counts state (event ∷ events) legal =

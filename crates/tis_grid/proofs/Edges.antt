@@ -31,6 +31,7 @@ module _ (grid : Grid) (is_grid : IsGrid grid) (position : ℕ) (within : positi
   untouched : (state : State) (taken : List ℤ) → taken ≡ [] → values_left grid state position ≡ taken ++ values_left grid state position
   untouched state taken none = ap (λ (front : List ℤ). front ++ values_left grid state position) (sym none)
 
+  -- the tile below an input takes its next value
   own_input : (state : State) → Fits grid state → 0 < left_at state position → values_left grid state position ≡ taken_from Up (steps_in grid state (In position) position) ++ values_left grid (after_event grid state (In position)) position
   own_input state fits some =
       let values = values_at grid.puzzle.inputs position in
@@ -40,12 +41,14 @@ module _ (grid : Grid) (is_grid : IsGrid grid) (position : ℕ) (within : positi
       next_then_rest values left some (fits.within position)
       ∙ ap₂ (λ (front : List ℤ) (n : ℕ). front ++ drop (length values - n) values) (sym (takes_here Up position position Up next refl refl)) (sym fewer)
 
+  -- what another input loses the tile below this one does not take
   other_input : (state : State) (at : ℕ) → (position ≡ at → ⊥) → values_left grid state position ≡ taken_from Up (steps_in grid state (In at) position) ++ values_left grid (after_event grid state (In at)) position
   other_input state at apart =
       let values = values_at grid.puzzle.inputs position in
       let same = get_or-set_other state.left at position (left_at state at - 1) 0 apart in
       ap₂ (λ (front : List ℤ) (n : ℕ). front ++ drop (length values - n) values) (sym (takes_none Up position at Up (next_value grid state at) (λ here up. apart (sym here)))) (sym same)
 
+  -- what an event takes from an input the tile below it takes
   event_takes : (state : State) (event : Event) → Fits grid state → IsEnabled grid state event → values_left grid state position ≡ taken_from Up (steps_in grid state event position) ++ values_left grid (after_event grid state event) position
   event_takes state (Local at) fits is = untouched state _ (own_takes_none Up position at.number)
   event_takes state (Meet at port) fits is =
@@ -53,8 +56,8 @@ module _ (grid : Grid) (is_grid : IsGrid grid) (position : ℕ) (within : positi
       let taker = reached grid at.number port in
       let value = offered state at.number port in
       let none : taken_from Up (step_at position taker (Took (opposite port) value)) ≡ [] = takes_none Up position taker (opposite port) value (λ same up.
-          let down : port ≡ Down = sym (opposite_twice port) ∙ ap opposite up in
-          not_top grid.puzzle.tiles.shape at.number position within (ap (λ (d : Dir). next_tile grid at.number d) (sym down) ∙ meets.next ∙ ap Some same)) in
+      let down : port ≡ Down = sym (opposite_twice port) ∙ ap opposite up in
+      not_top grid.puzzle.tiles.shape at.number position within (ap (λ (d : Dir). next_tile grid at.number d) (sym down) ∙ meets.next ∙ ap Some same)) in
       untouched state _ (taken_append Up (step_at position at.number (Gave port value)) (step_at position taker (Took (opposite port) value)) ∙ ap₂ (λ front rest. front ++ rest) (gave_takes_none Up position at.number port value) none)
   event_takes state (In at) fits is =
       elim (cases_eq position at) [
@@ -66,6 +69,7 @@ module _ (grid : Grid) (is_grid : IsGrid grid) (position : ℕ) (within : positi
   event_takes state (Pop at port) fits is =
       untouched state _ (takes_none Up position at.number port (newest (stack_at state (reached grid at.number port))) (λ same up. none_above grid.puzzle.tiles.shape position is.0 within (ap₂ (λ (t : ℕ) (d : Dir). next_tile grid t d) (sym same) (sym up) ∙ is.1.next)))
 
+  -- what an order takes from an input the tile below it takes
   pub order_takes : (state : State) (events : List Event) → Fits grid state → IsLegal grid state events → values_left grid state position ≡ taken_from Up (steps_of grid state events position) ++ values_left grid (after grid state events) position
   order_takes state [] fits legal = refl
   order_takes state (event ∷ events) fits legal =
@@ -83,6 +87,7 @@ module _ (grid : Grid) (is_grid : IsGrid grid) (position : ℕ) (within : positi
   unchanged : (state : State) (given : List ℤ) → given ≡ [] → outs state position ≡ outs state position ++ given
   unchanged state given none = sym (ap (λ (back : List ℤ). outs state position ++ back) none ∙ append-nil (outs state position))
 
+  -- an output gets what the tile above it gives
   own_output : (state : State) → Fits grid state → outs (after_event grid state (Out position)) position ≡ outs state position ++ given_to Down (steps_in grid state (Out position) (bottom_of grid position))
   own_output state fits =
       let bottom = bottom_of grid position in
@@ -90,6 +95,7 @@ module _ (grid : Grid) (is_grid : IsGrid grid) (position : ℕ) (within : positi
       get_or-set_same state.outs position (outs state position ++ value ∷ []) [] (omega (arith, fits.outs))
       ∙ ap (λ (back : List ℤ). outs state position ++ back) (sym (gives_here Down bottom bottom Down value refl refl))
 
+  -- what another output gets the tile above this one does not give
   other_output : (state : State) (at : ℕ) → (position ≡ at → ⊥) → outs (after_event grid state (Out at)) position ≡ outs state position ++ given_to Down (steps_in grid state (Out at) (bottom_of grid position))
   other_output state at apart =
       let bottom = bottom_of grid at in
@@ -101,6 +107,7 @@ module _ (grid : Grid) (is_grid : IsGrid grid) (position : ℕ) (within : positi
   below_bottom : (next tile : ℕ) (port : Dir) → tile ≡ bottom_of grid position → port ≡ Down → next_tile grid tile port ≡ Some next → ⊥
   below_bottom next tile port same down is = none_below grid.puzzle.tiles.shape position next (some_rows grid.puzzle.tiles is_grid.puzzle.board) (ap₂ (λ (t : ℕ) (d : Dir). next_tile grid t d) (sym same) (sym down) ∙ is)
 
+  -- what an event brings to an output the tile above it gives
   event_gives : (state : State) (event : Event) → Fits grid state → IsEnabled grid state event → outs (after_event grid state event) position ≡ outs state position ++ given_to Down (steps_in grid state event (bottom_of grid position))
   event_gives state (Local at) fits is = unchanged state _ (own_gives_none Down (bottom_of grid position) at.number)
   event_gives state (Meet at port) fits is =
@@ -118,6 +125,7 @@ module _ (grid : Grid) (is_grid : IsGrid grid) (position : ℕ) (within : positi
   event_gives state (Push at port) fits is = unchanged state _ (gives_none Down (bottom_of grid position) at.number port (offered state at.number port) (λ same down. below_bottom is.0 at.number port same down is.1.next))
   event_gives state (Pop at port) fits is = unchanged state _ (took_gives_none Down (bottom_of grid position) at.number port (newest (stack_at state (reached grid at.number port))))
 
+  -- what an order brings to an output the tile above it gives
   pub order_gives : (state : State) (events : List Event) → Fits grid state → IsLegal grid state events → outs (after grid state events) position ≡ outs state position ++ given_to Down (steps_of grid state events (bottom_of grid position))
   order_gives state [] fits legal = sym (append-nil (outs state position))
   order_gives state (event ∷ events) fits legal =

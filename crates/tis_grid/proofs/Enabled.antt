@@ -1,13 +1,13 @@
 -- What it says of its tiles that an event is enabled.
-use Rattle.std.proofs.Common.{◌≡◌, ◌≢◌, ℕ, ◌<◌, ℤ, pos, length, Option, Some, None, slice_get, unwrap_or, IsTrue, refl, sym, ap, ◌∙◌, subst, arith}
+use Rattle.std.proofs.Common.{◌≡◌, ℕ, ◌<◌, ℤ, pos, length, Option, Some, slice_get, unwrap_or, sym, ap, ◌∙◌, subst, arith}
 use Rattle.std.proofs.lemmas.Option.{slice_get_within}
 use Rattle.tis_base.specs.Tiles.{IsCompute, opposite}
 use Rattle.tis_base.specs.declared.tiles.Dir.{Dir}
 use Rattle.tis_base.specs.declared.tiles.TileKind.TheVariants.{Compute, Memory}
 use Rattle.tis_base.specs.declared.tiles.Tile.{Tile}
 use Rattle.tis_asm.specs.Node.{offers}
-use Rattle.tis_grid.specs.declared.event.Event.TheVariants.{Meet, Push, Pop}
-use Rattle.tis_grid.specs.State.{Grid, IsGrid, State, node_at}
+use Rattle.tis_grid.specs.declared.event.Event.TheVariants.{Meet}
+use Rattle.tis_grid.specs.State.{Grid, State, node_at}
 use Rattle.tis_grid.specs.Events.{next_tile, Wants, Offers, MeetsStack, IsEnabled, offered, reached}
 use Rattle.tis_grid.specs.Orders.{Fits}
 
@@ -21,6 +21,7 @@ pub record Meeting (grid : Grid) (state : State) (tile : ℕ) (dir : Dir) : Type
   pub offers : Offers grid state tile dir
   pub wants : Wants grid state (reached grid tile dir) (opposite dir)
 
+-- where two nodes meet, one gives and the next one takes
 pub meeting : (grid : Grid) (state : State) (tile : Tile) (dir : Dir) → IsEnabled grid state (Meet tile dir) → Meeting grid state tile.number dir
 meeting grid state tile dir is =
     let same = sym (reached_is grid tile.number dir is.0 is.1) in
@@ -34,6 +35,7 @@ meeting grid state tile dir is =
 offer_is : (offer : Option ℤ) (value : ℤ) → offer ≡ Some value → offer ≡ Some (unwrap_or offer (pos 0))
 offer_is offer value is = is ∙ ap (λ (o : Option ℤ). Some (unwrap_or o (pos 0))) (sym is)
 
+-- a node that offers a value gives the value that is offered
 pub gives : (grid : Grid) (state : State) (tile : ℕ) (dir : Dir) → Offers grid state tile dir → offers (node_at state tile) dir ≡ Some (offered state tile dir)
 gives grid state tile dir is = offer_is (offers (node_at state tile) dir) is.value is.offers
 
@@ -48,7 +50,10 @@ stack_apart grid tile dir stack next meets is compute =
     let memory : slice_get grid.puzzle.tiles.kinds next ≡ Some Memory = subst (λ (t : ℕ). slice_get grid.puzzle.tiles.kinds t ≡ Some Memory) same meets.memory in
     kinds_apart (sym memory ∙ compute)
   where
+    -- one value stands there
     some_same : (a b : ℕ) → ◌≡◌ {A = Option ℕ} (Some a) (Some b) → a ≡ b
     some_same a b is = cc
+
+    -- the two kinds differ
     kinds_apart : Some Memory ≡ Some Compute → ⊥
     kinds_apart is = cc

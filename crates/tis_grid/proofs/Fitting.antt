@@ -1,18 +1,16 @@
 -- The start is a state of its grid, and so is what an event leads to.
-use Rattle.std.proofs.Common.{◌≡◌, ◌≢◌, ℕ, zero, suc, ◌+◌, ◌-◌, ◌<◌, ◌≤◌, ℤ, List, [], ◌∷◌, ◌++◌, length, map, take, replicate, get_or, set, inl, inr, refl, sym, ap, ◌∙◌, subst, arith, length-append, length-take}
+use Rattle.std.proofs.Common.{◌≡◌, ℕ, zero, suc, ◌-◌, ◌<◌, ◌≤◌, ℤ, List, [], ◌∷◌, ◌++◌, length, map, replicate, get_or, set, inl, inr, refl, sym, ap, ◌∙◌, subst, arith, length-append, length-take}
 use Rattle.std.specs.List.{range_with_len}
 use Rattle.std.proofs.lemmas.Bool.{cases_eq, cases_lt}
 use Rattle.std.proofs.lemmas.List.{length-set, length-replicate, get_or-set_same, get_or-set_other, get_or_past, set_past}
 use Rattle.std.proofs.lemmas.List.FromFn.{length-map-range_with_len, get_or-map-range_with_len}
-use Rattle.tis_base.specs.declared.tiles.Dir.{Dir}
-use Rattle.tis_base.specs.declared.tiles.Dir.TheVariants.{Up, Down}
 use Rattle.tis_asm.specs.declared.program.Line.{Line}
 use Rattle.tis_asm.specs.Node.{Node, fresh, FitsProgram}
 use Rattle.tis_grid.specs.declared.event.Event.{Event}
 use Rattle.tis_grid.specs.declared.event.Event.TheVariants.{Local, Meet, In, Out, Push, Pop}
 use Rattle.tis_grid.specs.Puzzle.{values_at}
-use Rattle.tis_grid.specs.State.{Grid, IsGrid, State, node_at, stack_at, left_at, outs, start}
-use Rattle.tis_grid.specs.Events.{program_of, IsEnabled, MeetsStack, offered, reached, after_event, without_newest, STACK_ROOM}
+use Rattle.tis_grid.specs.State.{Grid, IsGrid, State, node_at, stack_at, left_at, start}
+use Rattle.tis_grid.specs.Events.{program_of, IsEnabled, offered, reached, after_event, without_newest, STACK_ROOM}
 use Rattle.tis_grid.specs.Orders.{Fits}
 use Rattle.tis_grid.specs.OwnSteps.{steps_in}
 use Rattle.tis_grid.proofs.Runs.{does_fit}
@@ -27,6 +25,7 @@ get_or-replicate zero index value = refl
 get_or-replicate (suc count) zero value = refl
 get_or-replicate (suc count) (suc index) value = get_or-replicate count index value
 
+-- a fresh node is one of each program
 fresh_fits : (program : List Line) → FitsProgram program fresh
 fresh_fits [] = (refl, refl)
 fresh_fits (line ∷ program) = omega arith
@@ -39,6 +38,7 @@ count_within count columns position =
       | inr past ↦ let none = get_or_past (map count (range_with_len 0 columns)) position 0 (omega (arith, length-map-range_with_len count 0 columns)) in omega arith
     ]
 
+-- the start fits
 pub start_fitting : (grid : Grid) → Fits grid (start grid)
 start_fitting grid =
     record {
@@ -65,6 +65,7 @@ get_or-set_holds {X} P xs at index value other new old =
     ]
 
 module _ (grid : Grid) (state : State) where
+  -- each tile keeps a node
   nodes_kept : (event : Event) → length (after_event grid state event).nodes ≡ length state.nodes
   nodes_kept (Local at) = length-set state.nodes _ _
   nodes_kept (Meet at dir) = length-set (set state.nodes _ _) _ _ ∙ length-set state.nodes _ _
@@ -73,6 +74,7 @@ module _ (grid : Grid) (state : State) where
   nodes_kept (Push at dir) = length-set state.nodes _ _
   nodes_kept (Pop at dir) = length-set state.nodes _ _
 
+  -- each tile keeps a stack
   stacks_kept : (event : Event) → length (after_event grid state event).stacks ≡ length state.stacks
   stacks_kept (Local at) = refl
   stacks_kept (Meet at dir) = refl
@@ -81,6 +83,7 @@ module _ (grid : Grid) (state : State) where
   stacks_kept (Push at dir) = length-set state.stacks _ _
   stacks_kept (Pop at dir) = length-set state.stacks _ _
 
+  -- each position keeps a count
   left_kept : (event : Event) → length (after_event grid state event).left ≡ length state.left
   left_kept (Local at) = refl
   left_kept (Meet at dir) = refl
@@ -89,6 +92,7 @@ module _ (grid : Grid) (state : State) where
   left_kept (Push at dir) = refl
   left_kept (Pop at dir) = refl
 
+  -- each position keeps a list
   outs_kept : (event : Event) → length (after_event grid state event).outs ≡ length state.outs
   outs_kept (Local at) = refl
   outs_kept (Meet at dir) = refl
@@ -107,6 +111,7 @@ module _ (grid : Grid) (state : State) where
         | inr elsewhere ↦ let same = get_or-set_other state.left at position (left_at state at - 1) 0 elsewhere in omega arith
       ]
     where
+      -- the count of the input that gave a value falls
       falls_at : (at : ℕ) → get_or (set state.left at (left_at state at - 1)) at 0 ≤ left_at state at
       falls_at at = get_or-set_holds (λ n. n ≤ left_at state at) state.left at at (left_at state at - 1) 0 (omega arith) (omega arith)
   left_falls (Out at) position = omega arith
@@ -129,6 +134,7 @@ module _ (grid : Grid) (state : State) where
       let values = stack_at state (reached grid at.number dir) in
       get_or-set_holds (λ (values : List ℤ). length values ≤ STACK_ROOM) state.stacks (reached grid at.number dir) tile (without_newest values) [] (omega (arith, length-take (length values - 1) values, room (reached grid at.number dir))) (room tile)
 
+  -- the state after an event fits
   pub event_fitting : (event : Event) → IsGrid grid → Fits grid state → IsEnabled grid state event → Fits grid (after_event grid state event)
   event_fitting event is_grid fits is =
       record {

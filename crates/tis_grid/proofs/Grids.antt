@@ -1,5 +1,5 @@
 -- The laws of every grid.
-use Rattle.std.proofs.Common.{◌≡◌, ℕ, List, [], ◌∷◌}
+use Rattle.std.proofs.Common.{ℕ, List, [], ◌∷◌}
 use Rattle.tis_grid.specs.declared.event.Event.{Event}
 use Rattle.tis_grid.specs.State.{Grid, IsGrid, State, node_at}
 use Rattle.tis_grid.specs.Events.{program_of, after_event}

@@ -1,5 +1,5 @@
 -- What one end of a link gives, the other end takes.
-use Rattle.std.proofs.Common.{◌≡◌, ℕ, List, [], ◌∷◌, ◌++◌, Some, refl, sym, ap, ap₂, ◌∙◌, subst}
+use Rattle.std.proofs.Common.{◌≡◌, ℕ, List, [], ◌∷◌, ◌++◌, Some, refl, sym, ap, ap₂, ◌∙◌}
 use Rattle.std.proofs.lemmas.List.{append-nil}
 use Rattle.std.proofs.lemmas.Option.{same_Some}
 use Rattle.tis_base.specs.Tiles.{IsCompute, opposite}
@@ -9,7 +9,7 @@ use Rattle.tis_asm.specs.PortRuns.{Took, Gave, taken_from, given_to}
 use Rattle.tis_grid.specs.declared.event.Event.{Event}
 use Rattle.tis_grid.specs.declared.event.Event.TheVariants.{Local, Meet, In, Out, Push, Pop}
 use Rattle.tis_grid.specs.State.{Grid, IsGrid, State, stack_at, next_value}
-use Rattle.tis_grid.specs.Events.{next_tile, bottom_of, MeetsStack, IsEnabled, offered, reached, newest, after_event}
+use Rattle.tis_grid.specs.Events.{next_tile, bottom_of, IsEnabled, offered, reached, newest, after_event}
 use Rattle.tis_grid.specs.Orders.{Fits, IsLegal}
 use Rattle.tis_grid.specs.OwnSteps.{step_at, steps_in, steps_of}
 use Rattle.tis_grid.proofs.Places.{next_back, next_one, not_top, none_below, some_columns, some_rows, compute_within}
@@ -41,8 +41,8 @@ module _ (grid : Grid) (is_grid : IsGrid grid) (tile : ℕ) (dir : Dir) (reader 
       let value = next_value grid state position in
       took_gives_none dir tile position Up value
       ∙ sym (takes_none (opposite dir) reader position Up value (λ same up.
-          let down : dir ≡ Down = sym (opposite_twice dir) ∙ ap opposite (sym up) in
-          not_top grid.puzzle.tiles.shape tile position is.0 (ap (λ (d : Dir). next_tile grid tile d) (sym down) ∙ next ∙ ap Some (sym same))))
+      let down : dir ≡ Down = sym (opposite_twice dir) ∙ ap opposite (sym up) in
+      not_top grid.puzzle.tiles.shape tile position is.0 (ap (λ (d : Dir). next_tile grid tile d) (sym down) ∙ next ∙ ap Some (sym same))))
   event_passes state (Out position) is =
       let bottom = bottom_of grid position in
       let value = offered state bottom Down in
@@ -57,6 +57,7 @@ module _ (grid : Grid) (is_grid : IsGrid grid) (tile : ℕ) (dir : Dir) (reader 
       took_gives_none dir tile at.number port value
       ∙ sym (takes_none (opposite dir) reader at.number port value (λ same to. stack_apart grid at.number port is.0 tile is.1 (ap₂ (λ (t : ℕ) (d : Dir). next_tile grid t d) same to ∙ back) here))
 
+  -- an order passes values along the link in turn
   pub order_passes : (state : State) (events : List Event) → Fits grid state → IsLegal grid state events → given_to dir (steps_of grid state events tile) ≡ taken_from (opposite dir) (steps_of grid state events reader)
   order_passes state [] fits legal = refl
   order_passes state (event ∷ events) fits legal =

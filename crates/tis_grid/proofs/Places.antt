@@ -1,8 +1,8 @@
 -- Where tiles are next to each other.
-use Rattle.std.proofs.Common.{◌≡◌, ◌≢◌, ℕ, zero, suc, ◌+◌, ◌-◌, ◌*◌, ◌/◌, ◌%◌, ◌<◌, ◌≤◌, Bool, true, cond, nat_lt, nat_le, length, Option, Some, None, slice_get, refl, sym, ap, ◌∙◌, subst, arith, mul-suc, div-add-mod', ltb-true, leb-true, lt-ltb, le-ltb, le-leb}
+use Rattle.std.proofs.Common.{◌≡◌, ◌≢◌, ℕ, zero, suc, ◌+◌, ◌-◌, ◌*◌, ◌/◌, ◌%◌, ◌<◌, ◌≤◌, nat_lt, nat_le, Some, sym, ap, ◌∙◌, arith, mul-suc, div-add-mod', ltb-true, leb-true, lt-ltb, le-leb}
 use Rattle.std.proofs.lemmas.Nat.{mod-mul-add, mod_below}
-use Rattle.std.proofs.lemmas.Bool.{cond-true, cond-false}
-use Rattle.std.proofs.lemmas.Option.{cond_some, none-some, slice_get_within}
+use Rattle.std.proofs.lemmas.Bool.{cond-true}
+use Rattle.std.proofs.lemmas.Option.{cond_some, slice_get_within}
 use Rattle.tis_base.specs.Tiles.{Board, IsBoard, IsCompute, neighbour_of, opposite}
 use Rattle.tis_base.specs.declared.tiles.Dir.{Dir}
 use Rattle.tis_base.specs.declared.tiles.Dir.TheVariants.{Left, Right, Up, Down}
@@ -32,21 +32,25 @@ column_within width number = omega (arith, div-add-mod' number width)
 
 -- ---- neighbours by numbers
 
+-- the tile to the left
 next_left : (shape : Shape) (tile next : ℕ) → neighbour_of shape tile Left ≡ Some next → (0 < tile % shape.columns) × (tile - 1 ≡ next)
 next_left shape tile next is =
     let parts = cond_some (nat_lt 0 (tile % shape.columns)) (tile - 1) next is in
     (ltb-true _ _ parts.0, parts.1)
 
+-- the tile to the right
 next_right : (shape : Shape) (tile next : ℕ) → neighbour_of shape tile Right ≡ Some next → (tile % shape.columns + 1 < shape.columns) × (tile + 1 ≡ next)
 next_right shape tile next is =
     let parts = cond_some (nat_lt (tile % shape.columns + 1) shape.columns) (tile + 1) next is in
     (ltb-true _ _ parts.0, parts.1)
 
+-- the tile above
 pub next_up : (shape : Shape) (tile next : ℕ) → neighbour_of shape tile Up ≡ Some next → (shape.columns ≤ tile) × (tile - shape.columns ≡ next)
 next_up shape tile next is =
     let parts = cond_some (nat_le shape.columns tile) (tile - shape.columns) next is in
     (leb-true _ _ parts.0, parts.1)
 
+-- the tile below
 pub next_down : (shape : Shape) (tile next : ℕ) → neighbour_of shape tile Down ≡ Some next → (tile + shape.columns < shape.columns * shape.rows) × (tile + shape.columns ≡ next)
 next_down shape tile next is =
     let parts = cond_some (nat_lt (tile + shape.columns) (shape.columns * shape.rows)) (tile + shape.columns) next is in
@@ -110,6 +114,7 @@ none_above shape position next within is = let parts = next_up shape position ne
 pub not_top : (shape : Shape) (tile next : ℕ) → next < shape.columns → neighbour_of shape tile Down ≡ Some next → ⊥
 not_top shape tile next within is = let parts = next_down shape tile next is in omega arith
 
+-- all rows but one, and one more
 all_rows : (width rows : ℕ) → 0 < rows → width * (rows - 1) + width ≡ width * rows
 all_rows width zero some = omega arith
 all_rows width (suc rows) some =
@@ -124,9 +129,11 @@ none_below shape position next some is =
 
 -- ---- boards
 
+-- a board has a column
 pub some_columns : (board : Board) → IsBoard board.shape board.kinds → 0 < board.shape.columns
 some_columns board is = omega (arith, is.allowed.0)
 
+-- a board has a row
 pub some_rows : (board : Board) → IsBoard board.shape board.kinds → 0 < board.shape.rows
 some_rows board is = omega (arith, is.allowed.1)
 

@@ -1,5 +1,5 @@
 -- An event is steps that the node of each tile can make, and leads to the node that they lead to.
-use Rattle.std.proofs.Common.{◌≡◌, ℕ, List, length}
+use Rattle.std.proofs.Common.{ℕ}
 use Rattle.tis_base.specs.Tiles.{opposite}
 use Rattle.tis_base.specs.declared.tiles.Dir.TheVariants.{Up, Down}
 use Rattle.tis_asm.specs.PortRuns.{Own, Took, Gave}
@@ -15,6 +15,7 @@ use Rattle.tis_grid.proofs.Acting.{acts, both_act}
 use Rattle.tis_grid.proofs.Enabled.{meeting, gives, has_node}
 
 module _ (grid : Grid) (state : State) (is_grid : IsGrid grid) (fits : Fits grid state) (tile : ℕ) where
+  -- what an event does to the node of a tile
   pub event_does : (event : Event) → IsEnabled grid state event → Does (program_of grid tile) (node_at state tile) (steps_in grid state event tile) (node_at (after_event grid state event) tile)
   event_does (Local at) is = acts (λ t. program_of grid t) state.nodes at.number Own tile (has_node grid state at.number fits is.0) is.1
   event_does (Meet at dir) is =
