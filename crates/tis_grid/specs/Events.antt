@@ -1,10 +1,9 @@
 -- What can happen on a grid: when each event is enabled, and what it does.
 use Rattle.std.specs.Prelude.{◌≡◌, ℕ, ◌+◌, ◌-◌, ◌*◌, ◌<◌, ℤ, pos, [], ◌∷◌, ◌++◌, List, length, take, Option, Some, unwrap_or, slice_get, slice_set, slice_index_or, IsTrue}
-use Rattle.tis_base.specs.Tiles.{Board, IsCompute, neighbour_of, opposite}
+use Rattle.tis_base.specs.Tiles.{IsCompute, neighbour_of, opposite}
 use Rattle.tis_base.specs.declared.tiles.Dir.{Dir}
-use Rattle.tis_base.specs.declared.tiles.Dir.TheVariants.{Left, Right, Up, Down}
+use Rattle.tis_base.specs.declared.tiles.Dir.TheVariants.{Up, Down}
 use Rattle.tis_base.specs.declared.tiles.TileKind.TheVariants as kinds
-use Rattle.tis_base.specs.declared.tiles.Tile.{Tile}
 use Rattle.tis_asm.specs.declared.program.Line.{Line}
 use Rattle.tis_asm.specs.Listing.{program_at}
 use Rattle.tis_asm.specs.Node.{Node, can_local, local_step, wants, take_value, offers, gave}

@@ -2,7 +2,7 @@
 use Rattle.std.specs.Prelude.{ℕ, ◌-◌, ℤ, pos, List, [], length, map, replicate, get_or}
 use Rattle.std.specs.List.{range_with_len}
 use Rattle.tis_asm.specs.declared.program.Line.{Line}
-use Rattle.tis_asm.specs.Listing.{Listing, IsListing}
+use Rattle.tis_asm.specs.Listing.{IsListing}
 use Rattle.tis_asm.specs.Node.{Node, fresh}
 use Rattle.tis_grid.specs.Puzzle.{Puzzle, IsPuzzle, values_at}
 

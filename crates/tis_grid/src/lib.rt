@@ -2,7 +2,9 @@
 #![tactic(auto)]
 
 mod event;
+mod laws;
 mod puzzle;
 
 pub use event::Event;
+pub use laws::{events_are_counted, links_pass_all, orders_are_runs, states_fit};
 pub use puzzle::{InputAt, OutKind, OutputAt, Puzzle};

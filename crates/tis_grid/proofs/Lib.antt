@@ -1,0 +1,11 @@
+pub mod Places
+pub mod Ports
+pub mod Runs
+pub mod Acting
+pub mod Enabled
+pub mod Steps
+pub mod Fitting
+pub mod Links
+pub mod Edges
+pub mod Counting
+pub mod Grids

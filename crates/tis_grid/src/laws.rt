@@ -1,0 +1,27 @@
+//! Laws of every grid, whatever its programs and whatever the order.
+ghost use Rattle.tis_grid.specs.Laws.{StartFits, EventsKeepFitting, OrdersAreRuns, LinksPassAll, InputsPassAll, OutputsPassAll, StepsCountEvents};
+
+/// The start of a grid is a state of it, and so is what an enabled event leads to.
+pub fn states_fit()
+    ensures start { StartFits }
+    ensures events { EventsKeepFitting }
+{}
+
+/// Seen from one tile, an order is steps that its node can make, and leads to the node that these
+/// steps lead to.
+pub fn orders_are_runs()
+    ensures runs { OrdersAreRuns }
+{}
+
+/// What one end of a link gave is what the other end took, and the same holds of what comes in
+/// above the top row and goes out below the bottom row.
+pub fn links_pass_all()
+    ensures links { LinksPassAll }
+    ensures inputs { InputsPassAll }
+    ensures outputs { OutputsPassAll }
+{}
+
+/// Each event is a step of some tile.
+pub fn events_are_counted()
+    ensures steps { StepsCountEvents }
+{}
