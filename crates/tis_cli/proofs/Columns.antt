@@ -9,11 +9,12 @@ use Rattle.tis_grid.specs.Puzzle.{Input, Output, IsPuzzle}
 use Rattle.tis_grid.specs.State.{outs, start}
 use Rattle.tis_grid.specs.Orders.{after, IsLegal}
 use Rattle.tis_cli.specs.Kahn.{kahn_at}
-use Rattle.tis_cli.specs.Column.{Column, IsColumn, column_net}
+use Rattle.tis_cli.specs.Column.{Column, IsColumn, column_net, NetOf}
+use Rattle.tis_cli.specs.Net.{Net}
 use Rattle.tis_cli.specs.Compiled.{compiled}
 use Rattle.tis_cli.specs.Carries.{FitsNet, grid_with, FollowsNet, Carries}
 use Rattle.tis_cli.specs.Stage.{Stage, FollowsStack}
-use Rattle.tis_cli.proofs.GridLaws.{GridLaws}
+use Rattle.tis_cli.proofs.GridLaws.{GridLaws, every_grid}
 use Rattle.tis_cli.proofs.PassStage.{pass_stage}
 use Rattle.tis_cli.proofs.Stack.{follows_stack}
 use Rattle.tis_cli.proofs.ColumnKahn.{kahn_at-column, kahn_at-other, bound-column}
@@ -57,3 +58,7 @@ column_carries laws column is_column puzzle is_puzzle fits =
     FollowsNet (grid_with (record { tiles = tiles; inputs = puzzle.inputs; outputs = puzzle.outputs }) (compiled (column_net column))) (column_net column) events)
     (sym fits.tiles)
     (carries_plain laws column is_column puzzle.inputs puzzle.outputs) is_puzzle fits
+
+-- the programs of every network that is taken carry it
+pub net_carries : (text : List ℕ) (net : Net) → NetOf text net → Carries (compiled net) net
+net_carries text net of = subst (λ (n : Net). Carries (compiled n) n) (sym of.net_is) (column_carries every_grid of.column of.is_column)

@@ -1,11 +1,14 @@
 -- What the store told, and what follows for the status.
-use Rattle.std.proofs.Common.{◌≡◌, ℕ, List, Option, Some, None, refl, sym, subst}
+use Rattle.std.proofs.Common.{◌≡◌, ℕ, List, Option, Some, None, option_map, refl, sym, ap, subst, ◌∙◌}
 use Rattle.std.specs.Prelude.{IfSome}
-use Rattle.tis_base.specs.Outside.{Texts, text_at}
+use Rattle.tis_base.specs.Outside.{Texts, text_at, with_text}
 use Rattle.tis_cli.specs.declared.status.Refusal.TheVariants.{NotThisForm}
 use Rattle.tis_cli.specs.Net.{Net}
 use Rattle.tis_cli.specs.Column.{NetOf}
-use Rattle.tis_cli.specs.Outcomes.{IsRefused}
+use Rattle.tis_cli.specs.Compiled.{compiled}
+use Rattle.tis_cli.specs.Saves.{save_text}
+use Rattle.tis_cli.specs.Outcomes.{IsRefused, Saved}
+use Rattle.tis_cli.proofs.Columns.{net_carries}
 
 -- what a store told of its texts, where it told them
 told_is : (told : Option Texts) (P : Texts → Type 0) → IfSome told P → (texts : Texts) → told ≡ Some texts → P texts
@@ -18,3 +21,18 @@ pub refusal_explained : (told : Option Texts) (name text seen : List ℕ) → If
 refusal_explained told name text seen fetched same none texts is =
     (text, told_is told (λ (t : Texts). text_at t name ≡ Some text) fetched texts is,
     record { no_network = λ net of. none net (subst (λ (t : List ℕ). NetOf t net) (sym same) of); form = refl })
+
+-- a text that was fetched and is a network is compiled: its save was kept
+pub saved_explained : (told between new : Option Texts) (name save text seen bytes : List ℕ) (net : Net) → IfSome told (λ texts. text_at texts name ≡ Some text) → seen ≡ text → NetOf seen net
+    → bytes ≡ save_text (compiled net) → between ≡ told → new ≡ option_map (λ texts. with_text texts save bytes) between
+    → (texts : Texts) → told ≡ Some texts → Saved name save texts new
+saved_explained told between new name save text seen bytes net fetched same of written stayed kept texts is =
+    let is_net : NetOf text net = subst (λ (t : List ℕ). NetOf t net) same of in
+    record {
+      text = text;
+      net = net;
+      stands = told_is told (λ (t : Texts). text_at t name ≡ Some text) fetched texts is;
+      is_net = is_net;
+      kept = kept ∙ ap (option_map (λ (t : Texts). with_text t save bytes)) (stayed ∙ is) ∙ ap (λ (b : List ℕ). Some (with_text texts save b)) written;
+      carries = net_carries text net is_net
+    }

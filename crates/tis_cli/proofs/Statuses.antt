@@ -8,7 +8,7 @@ use Rattle.tis_cli.specs.declared.status.Refusal.TheVariants.{NotThisForm}
 use Rattle.tis_cli.specs.Commands.{Command, Compile, command_of}
 use Rattle.tis_cli.specs.Net.{Net}
 use Rattle.tis_cli.specs.Column.{NetOf}
-use Rattle.tis_cli.specs.Outcomes.{Compiles, IsRefused, Saved, IsUnlessFault, Explains}
+use Rattle.tis_cli.specs.Outcomes.{Compiles, IsRefused, Saved, IsUnlessFault, Explains, ExplainsCommand}
 
 same_text : {a b : List ℕ} {read : Option (List ℕ)} → read ≡ Some a → read ≡ Some b → a ≡ b
 same_text is other = cc
@@ -16,13 +16,14 @@ same_text is other = cc
 no_text : {P : Type 0} {a : List ℕ} {read : Option (List ℕ)} → read ≡ None → read ≡ Some a → P
 no_text none some = absurd cc
 
+same_command : {a b : Command} {read : Option Command} → read ≡ Some a → read ≡ Some b → a ≡ b
+same_command is other = cc
+
 -- the command that was carried out is the one that the words are
-pub explained_at : (words : List (List ℕ)) (told new : Option Texts) (status : Status) (name kept net save : List ℕ) (texts : Texts)
-    → command_of words ≡ Some (Compile name kept) → Compiles words told net save texts → Explains told name kept status new → Explains told net save status new
-explained_at words told new status name kept net save texts spoken compiles explains =
-    let one : name ≡ net = cc (spoken, compiles.command) in
-    let two : kept ≡ save = cc (spoken, compiles.command) in
-    subst (λ (n : List ℕ). Explains told n save status new) one (subst (λ (k : List ℕ). Explains told name k status new) two explains)
+pub explained_at : (words : List (List ℕ)) (told new : Option Texts) (status : Status) (command : Command) (net save : List ℕ) (texts : Texts)
+    → command_of words ≡ Some command → Compiles words told net save texts → ExplainsCommand told command status new → Explains told net save status new
+explained_at words told new status command net save texts spoken compiles explains =
+    subst (λ (c : Command). ExplainsCommand told c status new) (same_command spoken compiles.command) explains
 
 pub missing_only : (told new : Option Texts) (status : Status) (net save : List ℕ) (texts : Texts) → told ≡ Some texts → Explains told net save status new → status ≡ Missing → text_at texts net ≡ None
 missing_only told new status net save texts is explains missing = subst (λ (s : Status). Explains told net save s new) missing explains texts is

@@ -10,6 +10,7 @@ use Rattle.tis_cli.specs.Commands.{Command, Compile, command_of}
 use Rattle.tis_cli.specs.Net.{Net}
 use Rattle.tis_cli.specs.Column.{NetOf}
 use Rattle.tis_cli.specs.Compiled.{compiled}
+use Rattle.tis_cli.specs.Carries.{Carries}
 use Rattle.tis_cli.specs.Saves.{save_text}
 
 -- the words, each as its bytes
@@ -26,13 +27,14 @@ pub record IsRefused (text : List ℕ) (refusal : Refusal) : Type 0 where
   pub no_network : (net : Net) → NetOf text net → ⊥
   pub form : refusal ≡ NotThisForm
 
--- the text under the name of the network is one, and nothing changed but that the canonical save of its programs stands under the name of the save
+-- the text under the name of the network is one, and nothing changed but that the canonical save of its programs stands under the name of the save; on every grid of a puzzle that fits, these programs follow the network in every order
 pub record Saved (name save : List ℕ) (old : Texts) (new : Option Texts) : Type 0 where
   pub text : List ℕ
   pub net : Net
   pub stands : text_at old name ≡ Some text
   pub is_net : NetOf text net
   pub kept : new ≡ Some (with_text old save (save_text (compiled net)))
+  pub carries : Carries (compiled net) net
 
 -- this status, or a fault of the store or want of memory in its place
 abbrev pub IsUnlessFault : Status → Status → Type 0
@@ -53,3 +55,6 @@ Explains told name save NoMemory new = Unit {0}
 -- the other statuses aren't answered
 Explains told name save Words new = ⊥
 Explains told name save SinkFault new = ⊥
+
+abbrev pub ExplainsCommand : Option Texts → Command → Status → Option Texts → Type 0
+ExplainsCommand told (Compile name save) status new = Explains told name save status new

@@ -4,8 +4,9 @@ ghost use Rattle.tis_cli.specs.declared.status.Refusal.{Refusal};
 ghost use Rattle.tis_base.specs.Outside.{Texts, text_at, Rose};
 ghost use Rattle.tis_cli.specs.Commands.{command_of};
 ghost use Rattle.tis_cli.specs.Net.{Net};
+ghost use Rattle.tis_cli.specs.Spoken.{held_command};
 ghost use Rattle.tis_cli.specs.Column.{NetOf};
-ghost use Rattle.tis_cli.specs.Outcomes.{words_of, ended, Explains, Compiles, IsRefused, Saved, IsUnlessFault};
+ghost use Rattle.tis_cli.specs.Outcomes.{words_of, ended, Explains, ExplainsCommand, Compiles, IsRefused, Saved, IsUnlessFault};
 
 use crate::command::{Command, read_words};
 use crate::net_emit::emit;
@@ -30,6 +31,20 @@ fn compile<S: Store>(alloc: Global, net: &str, save: &str, store: &mut S) -> Res
     let bytes = write_save(alloc, &programs)?;
     store.keep(save, &bytes)?;
     Ok(())
+}
+
+// Does what a command says.
+fn perform<S: Store>(alloc: Global, command: Command, store: &mut S) -> Status
+    ensures explains { ExplainsCommand (S.texts store.old) (held_command command.entry) result (S.texts store.new) }
+    ensures texts_stay { result ≢ Status.Done → S.texts store.new ≡ S.texts store.old }
+    ensures missing_counted { result ≡ Status.Missing → Rose (S.misses store.old) (S.misses store.new) }
+    ensures fault_counted { result ≡ Status.StoreFault → Rose (S.faults store.old) (S.faults store.new) }
+{
+    let Command::Compile { net, save } = command;
+    match compile(alloc, net, save, store) {
+        Ok(()) => Status::Done,
+        Err(status) => status,
+    }
 }
 
 /// Does what the words say, and says how it ended.
@@ -65,9 +80,6 @@ pub fn tool<S: Store, K: Sink>(alloc: Global, words: &[String], store: &mut S, o
 {
     match read_words(words) {
         None => Status::Words,
-        Some(Command::Compile { net, save }) => match compile(alloc, net, save, store) {
-            Ok(()) => Status::Done,
-            Err(status) => status,
-        },
+        Some(command) => perform(alloc, command, store),
     }
 }
