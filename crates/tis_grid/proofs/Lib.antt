@@ -9,3 +9,4 @@ pub mod Links
 pub mod Edges
 pub mod Counting
 pub mod Grids
+mod Examples
