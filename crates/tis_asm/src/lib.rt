@@ -12,3 +12,6 @@ pub use laws::{empty_programs_rest, moves_pass_values, steps_add_up};
 pub use program::Program;
 pub use programs::Programs;
 pub use text::print;
+
+#[cfg(test)]
+mod tests;

@@ -18,9 +18,11 @@ told_is (Some other) P h texts is = let same : other ≡ texts = cc in subst P s
 -- a text that was fetched and is no network is refused
 pub refusal_explained : (told : Option Texts) (name text seen : List ℕ) → IfSome told (λ texts. text_at texts name ≡ Some text) → seen ≡ text → ((net : Net) → NetOf seen net → ⊥)
     → (texts : Texts) → told ≡ Some texts → (x : List ℕ) × (text_at texts name ≡ Some x) × IsRefused x NotThisForm
-refusal_explained told name text seen fetched same none texts is =
-    (text, told_is told (λ (t : Texts). text_at t name ≡ Some text) fetched texts is,
-    record { no_network = λ net of. none net (subst (λ (t : List ℕ). NetOf t net) (sym same) of); form = refl })
+refusal_explained told name text seen fetched same none texts is = (
+  text,
+  told_is told (λ (t : Texts). text_at t name ≡ Some text) fetched texts is,
+  record { no_network = λ net of. none net (subst (λ (t : List ℕ). NetOf t net) (sym same) of); form = refl },
+)
 
 -- a text that was fetched and is a network is compiled: its save was kept
 pub saved_explained : (told between new : Option Texts) (name save text seen bytes : List ℕ) (net : Net) → IfSome told (λ texts. text_at texts name ≡ Some text) → seen ≡ text → NetOf seen net
@@ -34,5 +36,5 @@ saved_explained told between new name save text seen bytes net fetched same of w
       stands = told_is told (λ (t : Texts). text_at t name ≡ Some text) fetched texts is;
       is_net = is_net;
       kept = kept ∙ ap (option_map (λ (t : Texts). with_text t save bytes)) (stayed ∙ is) ∙ ap (λ (b : List ℕ). Some (with_text texts save b)) written;
-      carries = net_carries text net is_net
+      carries = net_carries text net is_net;
     }

@@ -1,0 +1,75 @@
+use crate::{Dest, Instr, Program, Programs, Source, print};
+use std::alloc::Global;
+use std::test::Fail;
+use tis_base::{Dir, Shape, Tile, TileKind, Tiles};
+
+// A move between two ports.
+fn moves(from: Dir, to: Dir) -> Instr {
+    Instr::Mov(Source::Port(from), Dest::Port(to))
+}
+
+#[test]
+fn a_program_takes_fifteen_lines_and_prints_them(rt: HostRuntime) -> Result<(), Fail> {
+    let mut program = Program::new();
+    assert!(rt; program.is_empty());
+    assert_eq!(rt; print(rt.alloc(), &program)?.as_slice(), b"".as_slice());
+    for (instr, mark, text) in [
+        (Instr::default(), false, b"MOV UP, DOWN\n".as_slice()),
+        (
+            moves(Dir::Left, Dir::Right),
+            true,
+            b"!MOV LEFT, RIGHT\n".as_slice(),
+        ),
+        (
+            moves(Dir::Down, Dir::Left),
+            false,
+            b"MOV DOWN, LEFT\n".as_slice(),
+        ),
+        (
+            moves(Dir::Right, Dir::Up),
+            true,
+            b"!MOV RIGHT, UP\n".as_slice(),
+        ),
+    ] {
+        let mut alone = Program::new();
+        assert!(rt; alone.push(instr, mark));
+        assert!(rt; program.push(instr, mark));
+        let last = program.len() - 1;
+        assert_eq!(rt; program.at(last), instr);
+        assert_eq!(rt; program.marked(last), mark);
+        assert_eq!(rt; print(rt.alloc(), &alone)?.as_slice(), text);
+    }
+    for len in 5..16 {
+        assert!(rt; program.push(Instr::default(), false));
+        assert_eq!(rt; program.len(), len);
+    }
+    let before = print(rt.alloc(), &program)?;
+    assert!(rt; !program.push(moves(Dir::Left, Dir::Left), true));
+    assert_eq!(rt; program.len(), 15);
+    assert_eq!(rt; print(rt.alloc(), &program)?, before);
+    assert!(rt;
+        before.starts_with(b"MOV UP, DOWN\n!MOV LEFT, RIGHT\nMOV DOWN, LEFT\n!MOV RIGHT, UP\nMOV")
+    );
+    Ok(())
+}
+
+#[test]
+fn each_tile_has_its_own_program(rt: HostRuntime) -> Result<(), Fail> {
+    let mut kinds = [TileKind::Compute; 12];
+    kinds[3] = TileKind::Memory;
+    let shape = Shape {
+        columns: 4,
+        rows: 3,
+    };
+    let tiles = Tiles::new(shape, &kinds).ok_or("no tiles")?;
+    let mut programs = Programs::empty(rt.alloc(), tiles)?;
+    let mut program = Program::new();
+    assert!(rt; program.push(Instr::default(), false));
+    programs.set(Tile { number: 11 }, program);
+    for number in 0..12 {
+        let want = if number == 11 { 1 } else { 0 };
+        assert_eq!(rt; programs.of(Tile { number }).len(), want, "at {number}");
+    }
+    assert_eq!(rt; programs.tiles(), tiles);
+    Ok(())
+}
