@@ -11,3 +11,5 @@ pub mod Stack
 pub mod ColumnKahn
 pub mod ColumnPrograms
 pub mod Columns
+pub mod SaveLines
+pub mod SavesReadBack
