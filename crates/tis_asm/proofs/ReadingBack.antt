@@ -41,9 +41,11 @@ dir_is_word Right = record { filled = refl; whole = refl }
 dir_is_word Up = record { filled = refl; whole = refl }
 dir_is_word Down = record { filled = refl; whole = refl }
 
+-- so is what names a source
 source_is_word : (source : Source) → IsWord (source_word source)
 source_is_word (from.Port dir) = dir_is_word dir
 
+-- and what names a destination
 dest_is_word : (dest : Dest) → IsWord (dest_word dest)
 dest_is_word (to.Port dir) = dir_is_word dir
 
@@ -78,6 +80,7 @@ instr-read mark (Mov source dest) =
     ∙ ap (λ (read : Option Source). option_map (λ (instr : Instr). record { instr = instr; mark = mark } ∷ []) (option_and_then (λ s. option_map (λ d. Mov s d) (dest_of_word (dest_word dest))) read)) (source-read source)
     ∙ ap (λ (read : Option Dest). option_map (λ (instr : Instr). record { instr = instr; mark = mark } ∷ []) (option_map (λ d. Mov source d) read)) (dest-read dest)
 
+-- so is a line with its mark, or without one
 marked-read : (mark : Bool) (instr : Instr) → instrs_of_line (line_text (record { instr = instr; mark = mark })) ≡ Some (record { instr = instr; mark = mark } ∷ [])
 marked-read true instr = instr-read true instr
 marked-read false (Mov source dest) = instr-read false (Mov source dest)
@@ -86,6 +89,7 @@ marked-read false (Mov source dest) = instr-read false (Mov source dest)
 pub line-read : (line : Line) → instrs_of_line (line_text line) ≡ Some (line ∷ [])
 line-read line = marked-read line.mark line.instr
 
+-- a line isn't blank, marked or not
 marked_is_filled : (mark : Bool) (instr : Instr) → is_blank (line_text (record { instr = instr; mark = mark })) ≡ false
 marked_is_filled true instr = refl
 marked_is_filled false (Mov source dest) = refl
@@ -94,24 +98,29 @@ marked_is_filled false (Mov source dest) = refl
 pub line_is_filled : (line : Line) → is_blank (line_text line) ≡ false
 line_is_filled line = marked_is_filled line.mark line.instr
 
+-- no name of a direction has LF or CR in it
 dir_is_plain : (dir : Dir) → is_plain_line (dir_word dir) ≡ true
 dir_is_plain Left = refl
 dir_is_plain Right = refl
 dir_is_plain Up = refl
 dir_is_plain Down = refl
 
+-- nor has a source
 source_is_plain : (source : Source) → is_plain_line (source_word source) ≡ true
 source_is_plain (from.Port dir) = dir_is_plain dir
 
+-- nor a destination
 dest_is_plain : (dest : Dest) → is_plain_line (dest_word dest) ≡ true
 dest_is_plain (to.Port dir) = dir_is_plain dir
 
+-- nor an instruction
 instr_is_plain : (instr : Instr) → is_plain_line (instr_text instr) ≡ true
 instr_is_plain (Mov source dest) =
     list_all-join is_plain_byte (codes "MOV " ++ source_word source ++ codes ", ") (dest_word dest)
     (list_all-join is_plain_byte (codes "MOV " ++ source_word source) (codes ", ") (list_all-join is_plain_byte (codes "MOV ") (source_word source) refl (source_is_plain source)) refl)
     (dest_is_plain dest)
 
+-- nor a line, marked or not
 marked_is_plain : (mark : Bool) (instr : Instr) → is_plain_line (line_text (record { instr = instr; mark = mark })) ≡ true
 marked_is_plain true instr = instr_is_plain instr
 marked_is_plain false instr = instr_is_plain instr

@@ -14,13 +14,14 @@ is_plain_byte byte = not (byte == 10 || byte == 13)
 abbrev pub is_plain_line : List ℕ → Bool
 is_plain_line line = list_all is_plain_byte line
 
--- neither holds where one of them isn't true
+-- neither is true where it isn't so that one of them is
 not_either : (a b : Bool) → not (a || b) ≡ true → (a ≡ false) × (b ≡ false)
 not_either true b is = absurd cc
 not_either false true is = absurd cc
 not_either false false is = (refl, refl)
 
-not_is : (a : Bool) → not a ≡ true → a ≡ false
+-- what isn't true is false
+pub not_is : (a : Bool) → not a ≡ true → a ≡ false
 not_is true is = absurd cc
 not_is false is = refl
 
@@ -28,6 +29,7 @@ not_is false is = refl
 pub list_all-join : {X : Type 0} (test : X → Bool) (front back : List X) → list_all test front ≡ true → list_all test back ≡ true → list_all test (front ++ back) ≡ true
 list_all-join test front back front_passes back_passes = list_all-append test front back ∙ and_from (list_all test front) (list_all test back) front_passes back_passes
 
+-- a byte that doesn't separate belongs to the first piece
 pieces_step : (separates : ℕ → Bool) (byte : ℕ) (bytes piece : List ℕ) (pieces : List (List ℕ)) → separates byte ≡ false → pieces_where separates bytes ≡ piece ∷ pieces → pieces_where separates (byte ∷ bytes) ≡ (byte ∷ piece) ∷ pieces
 pieces_step separates byte bytes piece pieces keeps is =
     ap (λ (b : Bool). cond b ([] ∷ pieces_where separates bytes) (onto_first byte (pieces_where separates bytes))) keeps ∙ ap (onto_first byte) is
@@ -63,6 +65,7 @@ no_cr (byte ∷ next ∷ bytes) plain =
     let parts = and_parts (is_plain_byte byte) (list_all is_plain_byte (next ∷ bytes)) plain in
     ap (λ (rest : List ℕ). byte ∷ rest) (no_cr (next ∷ bytes) parts.1)
 
+-- so the lines stay as they are
 no_crs : (lines : List (List ℕ)) → list_all is_plain_line lines ≡ true → map without_cr lines ≡ lines
 no_crs [] plain = refl
 no_crs (line ∷ lines) plain =
@@ -76,6 +79,7 @@ pieces-text (line ∷ lines) plain =
     let parts = and_parts (is_plain_line line) (list_all is_plain_line lines) plain in
     pieces-first (λ byte. byte == 10) line (text_of_lines lines) 10 (no_lf line parts.0) refl ∙ ap (λ (rest : List (List ℕ)). line ∷ rest) (pieces-text lines parts.1)
 
+-- only the last piece is looked at
 end_step : (piece next : List ℕ) (pieces : List (List ℕ)) → without_empty_end (piece ∷ next ∷ pieces) ≡ piece ∷ without_empty_end (next ∷ pieces)
 end_step [] next pieces = refl
 end_step (byte ∷ piece) next pieces = refl

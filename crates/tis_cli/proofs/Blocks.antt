@@ -1,5 +1,5 @@
 -- The blocks of a save, tile by tile.
-use Rattle.std.proofs.Common.{◌≡◌, ℕ, zero, suc, ◌+◌, ◌<◌, ◌≤◌, Bool, true, false, cond, List, [], ◌∷◌, ◌++◌, length, take, get_or, count_by, Some, refl, sym, ap, ◌∙◌, arith, add-one, add-zero, append_assoc}
+use Rattle.std.proofs.Common.{◌≡◌, ℕ, zero, suc, ◌+◌, ◌<◌, ◌≤◌, Bool, true, false, cond, List, [], ◌∷◌, ◌++◌, length, take, get_or, count_by, Some, sym, ap, ◌∙◌, arith, add-one}
 use Rattle.std.specs.Prelude.{flat_map, slice_get, decimal}
 use Rattle.std.specs.List.{range_with_len}
 use Rattle.std.proofs.lemmas.Grind.{flat_map-append}
@@ -7,10 +7,10 @@ use Rattle.std.proofs.lemmas.List.{append-nil}
 use Rattle.std.proofs.lemmas.List.Sums.{count_by_more_no, count_by_more_yes}
 use Rattle.std.proofs.lemmas.Option.{slice_get_within, get_or_from_slice_get}
 use Rattle.tis_base.specs.declared.tiles.TileKind.{TileKind}
-use Rattle.tis_base.specs.declared.tiles.TileKind.TheVariants.{Compute, Memory, Damaged}
+use Rattle.tis_base.specs.declared.tiles.TileKind.TheVariants.{Damaged}
 use Rattle.tis_base.specs.Tiles.{Board, is_compute, block_of}
 use Rattle.tis_asm.specs.declared.program.Line.{Line}
-use Rattle.tis_asm.specs.Listing.{Listing, program_at}
+use Rattle.tis_asm.specs.Listing.{Listing}
 use Rattle.tis_cli.specs.Saves.{block_text, tile_text}
 
 range_push : (a n : ℕ) → range_with_len a (suc n) ≡ range_with_len a n ++ (a + n) ∷ []

@@ -21,7 +21,7 @@ refused_net None text e =
     λ net of.
     let read : column_at text ≡ Some of.column = ap column_at (of.text_is ∙ ap net_text of.net_is) ∙ column_again of.column of.is_column in
     never_read of.column (e ∙ read)
-    where
-      never_read : (column : Column) → None ≡ Some column → ⊥
-      never_read column is = cc
+  where
+    never_read : (column : Column) → None ≡ Some column → ⊥
+    never_read column is = cc
 refused_net (Some column) text e = tt

@@ -13,3 +13,4 @@ pub mod ColumnPrograms
 pub mod Columns
 pub mod SaveLines
 pub mod SavesReadBack
+pub mod Examples

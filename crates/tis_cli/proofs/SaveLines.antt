@@ -1,6 +1,6 @@
 -- The lines of a save: for each tile with a program its head, its code and an empty line.
-use Rattle.std.proofs.Common.{◌≡◌, ℕ, zero, suc, ◌+◌, ◌%◌, ◌^◌, ◌<◌, ◌≤◌, Bool, true, false, cond, List, [], ◌∷◌, ◌++◌, length, map, take, count_by, Some, refl, sym, ap, subst, ◌∙◌, inl, inr, arith}
-use Rattle.std.specs.Prelude.{◌||◌, ◌==◌, flat_map, decimal, not, slice_get, get_or}
+use Rattle.std.proofs.Common.{◌≡◌, ℕ, ◌+◌, ◌%◌, ◌^◌, ◌<◌, ◌≤◌, Bool, true, false, cond, List, [], ◌∷◌, ◌++◌, length, map, take, count_by, refl, sym, ap, subst, ◌∙◌, inl, inr, arith}
+use Rattle.std.specs.Prelude.{flat_map, decimal, not}
 use Rattle.std.specs.List.{list_all}
 use Rattle.std.proofs.lemmas.Bool.{true≢false, cases_Bool, and_from, ne_eqb}
 use Rattle.std.proofs.lemmas.Fmt.{decimal_by_steps, decimal_injective}
@@ -9,7 +9,6 @@ use Rattle.std.proofs.lemmas.List.Sums.{count_by-le-length, count_by_more_yes, s
 use Rattle.std.proofs.lemmas.Option.{get_or_from_slice_get}
 use Rattle.tis_base.specs.Lines.{text_lines, text_of_lines}
 use Rattle.tis_base.specs.Tiles.{Board, is_compute, block_of}
-use Rattle.tis_base.specs.declared.tiles.TileKind.{TileKind}
 use Rattle.tis_base.specs.declared.tiles.TileKind.TheVariants.{Compute, Damaged}
 use Rattle.tis_base.proofs.TextLines.{is_plain_byte, is_plain_line, list_all-join, text_lines-text_of_lines, text_of_lines-append}
 use Rattle.tis_asm.specs.declared.instr.Instr.{Instr}
@@ -32,9 +31,11 @@ abbrev pub section_of : List ℕ → List Line → List (List ℕ)
 section_of head [] = []
 section_of head (line ∷ program) = head ∷ (map line_text (line ∷ program) ++ [] ∷ [])
 
+-- the lines of the block of a tile
 abbrev pub tile_section : Listing → ℕ → List (List ℕ)
 tile_section listing tile = section_of (head_of listing.tiles tile) (program_at listing.programs tile)
 
+-- the text of a block is that of its lines
 section-text : (head : List ℕ) (program : List Line) → block_text head program ≡ text_of_lines (section_of head program)
 section-text head [] = refl
 section-text head (line ∷ program) = ap (λ (text : List ℕ). head ++ 10 ∷ text) (sym (text_of_lines-append (map line_text (line ∷ program)) ([] ∷ [])))
@@ -53,10 +54,12 @@ sections-text listing (tile ∷ tiles) =
 abbrev pub is_code : List ℕ → Bool
 is_code line = not (is_head line)
 
+-- a line of a program isn't a head, marked or not
 marked_is_code : (mark : Bool) (instr : Instr) → is_code (line_text (record { instr = instr; mark = mark })) ≡ true
 marked_is_code true instr = refl
 marked_is_code false (Mov source dest) = refl
 
+-- so no line of a program is one
 program_is_code : (program : List Line) → list_all is_code (map line_text program) ≡ true
 program_is_code [] = refl
 program_is_code (line ∷ program) = and_from (is_code (line_text line)) (list_all is_code (map line_text program)) (marked_is_code line.mark line.instr) (program_is_code program)
@@ -102,19 +105,23 @@ has_program listing is tile line program has =
 
 -- ---- no line of a save has LF or CR in it
 
+-- a digit is neither LF nor CR
 digit_is_plain : (digit : ℕ) → is_plain_line ((48 + digit) ∷ []) ≡ true
 digit_is_plain digit = rw (ne_eqb (48 + digit) 10 (λ e. omega arith), ne_eqb (48 + digit) 13 (λ e. omega arith)) refl
 
+-- nor is one in a number
 decimal_is_plain : (number : ℕ) → number < 2 ^ 64 → is_plain_line (decimal number) ≡ true
 decimal_is_plain =
     decimal_by_steps (λ number digits. is_plain_line digits ≡ true) (λ number lt. digit_is_plain number)
     (λ number digits le plain. list_all-join is_plain_byte digits ((48 + number % 10) ∷ []) plain (digit_is_plain (number % 10)))
 
+-- nor in a block
 section_is_plain : (head : List ℕ) (program : List Line) → is_plain_line head ≡ true → list_all is_plain_line (section_of head program) ≡ true
 section_is_plain head [] plain = refl
 section_is_plain head (line ∷ program) plain =
     and_from (is_plain_line head) (list_all is_plain_line (map line_text (line ∷ program) ++ [] ∷ [])) plain (list_all-join is_plain_line (map line_text (line ∷ program)) ([] ∷ []) (program_is_plain (line ∷ program)) refl)
 
+-- nor in all blocks
 sections_are_plain : (listing : Listing) (tiles : List ℕ) → length listing.tiles.kinds < 2 ^ 64 → list_all is_plain_line (flat_map (tile_section listing) tiles) ≡ true
 sections_are_plain listing [] small = refl
 sections_are_plain listing (tile ∷ tiles) small =

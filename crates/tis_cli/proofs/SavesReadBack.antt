@@ -1,6 +1,6 @@
 -- The canonical save of a listing is read as that listing.
 use Rattle.std.proofs.Common.{◌≡◌, ℕ, zero, suc, ◌+◌, ◌*◌, ◌^◌, ◌<◌, ◌≤◌, Bool, true, false, cond, List, [], ◌∷◌, ◌++◌, length, map, Option, Some, None, refl, sym, ap, subst, ◌∙◌, inl, inr, arith, append_assoc}
-use Rattle.std.specs.Prelude.{◌||◌, ◌&&◌, flat_map, not, get_or, Result, Ok, Err}
+use Rattle.std.specs.Prelude.{◌&&◌, flat_map, not, Result, Ok}
 use Rattle.std.specs.List.{range_with_len, list_all, list_any, take_while}
 use Rattle.std.specs.Option.{option_or}
 use Rattle.std.specs.Str.{bytes_eq}
@@ -10,21 +10,18 @@ use Rattle.std.proofs.lemmas.List.Folds.{list_any-append, list_any_at}
 use Rattle.std.proofs.lemmas.List.FromFn.{length-range_with_len, get_or-range_with_len, length-map-range_with_len, get_or-map-range_with_len}
 use Rattle.std.proofs.lemmas.List.Sums.{take_while-cons}
 use Rattle.std.proofs.lemmas.Slice.Eq.{bytes_eq-Decides}
-use Rattle.tis_base.specs.Tiles.{Board, IsBoard, block_of}
+use Rattle.tis_base.proofs.TextLines.{not_is}
+use Rattle.tis_base.specs.Tiles.{Board, block_of}
 use Rattle.tis_asm.specs.declared.program.Line.{Line}
 use Rattle.tis_asm.specs.Listing.{Listing, IsListing, program_at}
 use Rattle.tis_asm.specs.Code.{line_text}
-use Rattle.tis_asm.specs.Assembling.{AsmRefusal, is_blank, assembled_lines}
+use Rattle.tis_asm.specs.Assembling.{is_blank, assembled_lines}
 use Rattle.tis_asm.proofs.ReadingBack.{lines_read_back}
 use Rattle.tis_cli.specs.Saves.{SaveRefusal, StrayCode, head_of, save_text, is_head, computes, is_head_on, head_fault, code_fault, line_fault, first_fault, block_lines, in_block, tile_program, with_program, programs_of, listing_of, save_of_lines, save_of, SavesReadBack}
 use Rattle.tis_cli.proofs.Spelling.{not_same}
 use Rattle.tis_cli.proofs.SaveLines.{body_of, section_of, tile_section, is_code, body_is_code, heads_differ, no_program, has_program, sections-lines}
 
 -- ---- lists of lines
-
-not_is : (a : Bool) → not a ≡ true → a ≡ false
-not_is true is = absurd cc
-not_is false is = refl
 
 -- code is no head
 code_is_no_head : (line head : List ℕ) → is_code line ≡ true → is_head head ≡ true → line ≡ head → ⊥
@@ -109,9 +106,11 @@ module _ (listing : Listing) (small : length listing.tiles.kinds < 2 ^ 64) (is :
   abbrev lines_from : ℕ → ℕ → List (List ℕ)
   lines_from start count = flat_map (tile_section listing) (range_with_len start count)
 
+  -- the head of a tile's block
   abbrev head_at : ℕ → List ℕ
   head_at tile = head_of listing.tiles tile
 
+  -- the program of a tile
   abbrev code_at : ℕ → List Line
   code_at tile = program_at listing.programs tile
 
@@ -148,9 +147,9 @@ module _ (listing : Listing) (small : length listing.tiles.kinds < 2 ^ 64) (is :
       elim (cases_eq start tile) [
         | inl here ↦ subst (λ (t : ℕ). block_lines (head_at t) (lines_from start (suc count)) ≡ body_of (code_at t)) here (first_block start count inside (subst (λ (t : ℕ). computes listing.tiles t ≡ true) (sym here) computing))
         | inr later ↦
-          skip_section (head_at tile) (head_at start) (code_at start) (lines_from (start + 1) count) refl
-          (λ line others has. apart start tile (omega arith) (omega arith) (has_program listing is start line others has) computing later)
-          ∙ each_block tile (start + 1) count (omega arith) (omega arith) (omega arith) computing
+            skip_section (head_at tile) (head_at start) (code_at start) (lines_from (start + 1) count) refl
+            (λ line others has. apart start tile (omega arith) (omega arith) (has_program listing is start line others has) computing later)
+            ∙ each_block tile (start + 1) count (omega arith) (omega arith) (omega arith) computing
       ]
 
   -- no head of these tiles stands above
@@ -163,10 +162,10 @@ module _ (listing : Listing) (small : length listing.tiles.kinds < 2 ^ 64) (is :
   still_fresh start above line program start_inside start_computes fresh tile later inside computing =
       list_any-append (bytes_eq (head_at tile)) (above ++ head_at start ∷ []) (map line_text (line ∷ program) ++ [] ∷ [])
       ∙ or_from (list_any (bytes_eq (head_at tile)) (above ++ head_at start ∷ [])) (list_any (bytes_eq (head_at tile)) (map line_text (line ∷ program) ++ [] ∷ []))
-        (list_any-append (bytes_eq (head_at tile)) above (head_at start ∷ [])
-        ∙ or_from (list_any (bytes_eq (head_at tile)) above) (list_any (bytes_eq (head_at tile)) (head_at start ∷ [])) (fresh tile (omega arith) inside computing)
-          (or_from (bytes_eq (head_at tile) (head_at start)) false (not_same (head_at tile) (head_at start) (apart tile start inside start_inside computing start_computes (λ e. omega arith))) refl))
-        (no_head_in_code (head_at tile) (map line_text (line ∷ program) ++ [] ∷ []) refl (body_is_code line program))
+      (list_any-append (bytes_eq (head_at tile)) above (head_at start ∷ [])
+      ∙ or_from (list_any (bytes_eq (head_at tile)) above) (list_any (bytes_eq (head_at tile)) (head_at start ∷ [])) (fresh tile (omega arith) inside computing)
+      (or_from (bytes_eq (head_at tile) (head_at start)) false (not_same (head_at tile) (head_at start) (apart tile start inside start_inside computing start_computes (λ e. omega arith))) refl))
+      (no_head_in_code (head_at tile) (map line_text (line ∷ program) ++ [] ∷ []) refl (body_is_code line program))
 
   -- nothing is wrong with the lines of a block, below others
   section_is_right : (start : ℕ) (program : List Line) (above rest : List (List ℕ)) → code_at start ≡ program → start < length listing.tiles.kinds → AreFresh start above →
@@ -194,11 +193,11 @@ module _ (listing : Listing) (small : length listing.tiles.kinds < 2 ^ 64) (is :
   tile_program-read tile inside =
       elim (cases_Bool (computes listing.tiles tile)) [
         | inl computing ↦
-          ap (λ (b : Bool). cond b (in_block (block_of listing.tiles tile) (assembled_lines (block_lines (head_at tile) all_lines))) (Ok [])) computing
-          ∙ ap (in_block (block_of listing.tiles tile)) (ap assembled_lines (each_block tile 0 (length listing.tiles.kinds) (omega arith) (omega arith) (omega arith) computing) ∙ body-read (code_at tile) (is.short tile))
+            ap (λ (b : Bool). cond b (in_block (block_of listing.tiles tile) (assembled_lines (block_lines (head_at tile) all_lines))) (Ok [])) computing
+            ∙ ap (in_block (block_of listing.tiles tile)) (ap assembled_lines (each_block tile 0 (length listing.tiles.kinds) (omega arith) (omega arith) (omega arith) computing) ∙ body-read (code_at tile) (is.short tile))
         | inr resting ↦
-          ap (λ (b : Bool). cond b (in_block (block_of listing.tiles tile) (assembled_lines (block_lines (head_at tile) all_lines))) (Ok [])) resting
-          ∙ ap (λ (program : List Line). Ok program) (sym (no_program listing is tile resting))
+            ap (λ (b : Bool). cond b (in_block (block_of listing.tiles tile) (assembled_lines (block_lines (head_at tile) all_lines))) (Ok [])) resting
+            ∙ ap (λ (program : List Line). Ok program) (sym (no_program listing is tile resting))
       ]
 
   -- and those of so many tiles from one on
@@ -223,6 +222,7 @@ module _ (listing : Listing) (small : length listing.tiles.kinds < 2 ^ 64) (is :
 
   -- the text of a save is read as the listing
   pub save-read : save_of (save_text listing) listing.tiles ≡ Ok listing
+  unfolding save_of
   save-read = ap (λ (lines : List (List ℕ)). save_of_lines lines listing.tiles) (sections-lines listing (range_with_len 0 (length listing.tiles.kinds)) small) ∙ all_lines-read
 
 -- the canonical save of a listing is read as that listing

@@ -1,14 +1,13 @@
 -- The text of a column, part by part: what is read is spelled so, and what is spelled so is read.
-use Rattle.std.proofs.Common.{◌≡◌, ℕ, ◌+◌, ◌<◌, Bool, true, false, cond, List, [], ◌∷◌, ◌++◌, Option, Some, None, refl, sym, ap, subst, ◌∙◌, append_assoc, arith}
+use Rattle.std.proofs.Common.{◌≡◌, ℕ, ◌+◌, ◌<◌, Bool, true, false, cond, List, [], ◌∷◌, ◌++◌, Some, None, refl, sym, ap, subst, ◌∙◌, append_assoc}
 use Rattle.std.specs.Prelude.{codes, decimal}
-use Rattle.std.specs.Prelude.{IsTrue}
 use Rattle.std.specs.Str.{bytes_eq}
 use Rattle.std.proofs.lemmas.Bool.{false≢true}
 use Rattle.std.proofs.lemmas.Slice.Eq.{bytes_eq-Decides}
-use Rattle.tis_cli.specs.Net.{Name, IsName, is_name}
+use Rattle.tis_cli.specs.Net.{Name, is_name}
 use Rattle.tis_cli.specs.NetText.{net_text}
 use Rattle.tis_cli.specs.Column.{Column, IsColumn, column_net}
-use Rattle.tis_cli.specs.Reading.{behind, name_at, position_at, input_at, output_at, process_at, whole, column_at}
+use Rattle.tis_cli.specs.Reading.{input_at, output_at, process_at, whole, column_at}
 use Rattle.tis_cli.proofs.Parts.{step, goes_on, glue, behind_is, behind_again, name_is, name_again, position_is, position_again}
 
 some_is : {A : Type 0} {x y : A} → Some x ≡ Some y → x ≡ y
@@ -51,7 +50,7 @@ input_is bytes x e =
     let n = name_is start name name-is in
     let p = position_is at position position-is in
     let text : bytes ≡ input_text name.0 position.0 end =
-        glue (codes "net 1\ntiles CCCC CCCC CCCC\ninput ") (behind_is _ _ _ start-is) (glue name.0 n.1 (glue (codes " at ") (behind_is _ _ _ at-is) (glue (decimal position.0) p.1 (behind_is _ _ _ end-is)))) in
+    glue (codes "net 1\ntiles CCCC CCCC CCCC\ninput ") (behind_is _ _ _ start-is) (glue name.0 n.1 (glue (codes " at ") (behind_is _ _ _ at-is) (glue (decimal position.0) p.1 (behind_is _ _ _ end-is)))) in
     subst (InputIs bytes) (some_is e5) (n.0, p.0, text))))))
 
 abbrev OutputIs : ℕ → List ℕ → Name × List ℕ → Type 0
@@ -64,8 +63,8 @@ output_is position bytes x e =
     step _ _ _ e5 (λ blank blank-is e6. step _ _ _ e6 (λ second second-is e7. step _ _ _ e7 (λ end end-is e8. step _ _ _ e8 (λ rest rest-is e9.
     let n = name_is start name name-is in
     let text : bytes ≡ output_text name.0 position rest =
-        glue (codes "output ") (behind_is _ _ _ start-is) (glue name.0 n.1 (glue (codes " at ") (behind_is _ _ _ at-is) (glue (decimal position) (behind_is _ _ _ via-is) (glue (codes " via ") (behind_is _ _ _ first-is)
-        (glue (decimal (position + 4)) (behind_is _ _ _ blank-is) (glue (codes " ") (behind_is _ _ _ second-is) (glue (decimal (position + 8)) (behind_is _ _ _ end-is) (behind_is _ _ _ rest-is)))))))) in
+    glue (codes "output ") (behind_is _ _ _ start-is) (glue name.0 n.1 (glue (codes " at ") (behind_is _ _ _ at-is) (glue (decimal position) (behind_is _ _ _ via-is) (glue (codes " via ") (behind_is _ _ _ first-is)
+    (glue (decimal (position + 4)) (behind_is _ _ _ blank-is) (glue (codes " ") (behind_is _ _ _ second-is) (glue (decimal (position + 8)) (behind_is _ _ _ end-is) (behind_is _ _ _ rest-is)))))))) in
     subst (OutputIs position bytes) (some_is e9) (n.0, text))))))))))
 
 abbrev ProcessIs : ℕ → Name → Name → List ℕ → Name × List ℕ → Type 0
@@ -78,8 +77,8 @@ process_is position input output bytes x e =
     step _ _ _ e5 (λ blank blank-is e6. step _ _ _ e6 (λ to to-is e7. step _ _ _ e7 (λ end end-is e8. step _ _ _ e8 (λ rest rest-is e9.
     let n = name_is start name name-is in
     let text : bytes ≡ process_text name.0 position input output rest =
-        glue (codes "process ") (behind_is _ _ _ start-is) (glue name.0 n.1 (glue (codes " at ") (behind_is _ _ _ at-is) (glue (decimal position) (behind_is _ _ _ body-is) (glue (codes "\nmove ") (behind_is _ _ _ move-is)
-        (glue input (behind_is _ _ _ blank-is) (glue (codes " ") (behind_is _ _ _ to-is) (glue output (behind_is _ _ _ end-is) (behind_is _ _ _ rest-is)))))))) in
+    glue (codes "process ") (behind_is _ _ _ start-is) (glue name.0 n.1 (glue (codes " at ") (behind_is _ _ _ at-is) (glue (decimal position) (behind_is _ _ _ body-is) (glue (codes "\nmove ") (behind_is _ _ _ move-is)
+    (glue input (behind_is _ _ _ blank-is) (glue (codes " ") (behind_is _ _ _ to-is) (glue output (behind_is _ _ _ end-is) (behind_is _ _ _ rest-is)))))))) in
     subst (ProcessIs position input output bytes) (some_is e9) (n.0, text))))))))))
 
 whole_cases : (same : Bool) (column found : Column) → cond same None (Some column) ≡ Some found → (same ≡ false) × (column ≡ found)
@@ -105,7 +104,7 @@ column_is text column e =
     let w = whole_is made process.1 column e3 in
     let differ : input.0.0 ≡ output.0 → ⊥ = λ same. false≢true (sym w.1 ∙ (bytes_eq-Decides _ _).1 same) in
     let spelt : text ≡ column_text made =
-        i.2 ∙ ap (input_text input.0.0 input.0.1) (o.1 ∙ ap (output_text output.0 input.0.1) (p.1 ∙ ap (process_text process.0 input.0.1 input.0.0 output.0) w.0)) in
+    i.2 ∙ ap (input_text input.0.0 input.0.1) (o.1 ∙ ap (output_text output.0 input.0.1) (p.1 ∙ ap (process_text process.0 input.0.1 input.0.0 output.0) w.0)) in
     subst (λ (c : Column). IsColumn c × (text ≡ net_text (column_net c))) w.2
     (record { position = i.1; input = i.0; output = o.0; process = p.0; links_differ = differ }, spelt ∙ sym (spelled made)))))
 

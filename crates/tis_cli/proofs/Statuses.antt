@@ -1,11 +1,10 @@
 -- What each status says of the texts, for the words that were given.
-use Rattle.std.proofs.Common.{◌≡◌, ◌⊎◌, ℕ, List, Option, Some, None, refl, sym, ap, subst, ◌∙◌, inl, inr}
+use Rattle.std.proofs.Common.{◌≡◌, ℕ, List, Option, Some, None, refl, sym, ap, subst, ◌∙◌, inl, inr}
 use Rattle.tis_base.specs.Outside.{Texts, text_at}
 use Rattle.tis_cli.specs.declared.status.Status.{Status}
 use Rattle.tis_cli.specs.declared.status.Status.TheVariants.{Done, Words, Refused, Missing, StoreFault, SinkFault, NoMemory}
 use Rattle.tis_cli.specs.declared.status.Refusal.{Refusal}
-use Rattle.tis_cli.specs.declared.status.Refusal.TheVariants.{NotThisForm}
-use Rattle.tis_cli.specs.Commands.{Command, Compile, command_of}
+use Rattle.tis_cli.specs.Commands.{Command, command_of}
 use Rattle.tis_cli.specs.Net.{Net}
 use Rattle.tis_cli.specs.Column.{NetOf}
 use Rattle.tis_cli.specs.Outcomes.{Compiles, IsRefused, Saved, IsUnlessFault, Explains, ExplainsCommand}

@@ -1,5 +1,5 @@
 -- Reading the text of a network from left to right: each part gives what it reads and the bytes behind it, or nothing.
-use Rattle.std.specs.Prelude.{◌≡◌, ℕ, ◌+◌, ◌-◌, Bool, true, false, ◌&&◌, not, List, [], ◌∷◌, length, take, drop, take_while, Option, Some, None, option_and_then, codes, decimal, nat_le, if◌then◌else◌}
+use Rattle.std.specs.Prelude.{◌≡◌, ℕ, ◌+◌, ◌-◌, ◌&&◌, List, [], ◌∷◌, length, take, drop, take_while, Option, Some, None, option_and_then, codes, decimal, nat_le, if◌then◌else◌}
 use Rattle.std.specs.Str.{bytes_eq}
 use Rattle.tis_cli.specs.Net.{Name, is_name, is_name_byte}
 use Rattle.tis_cli.specs.declared.net_syntax.column.Column as read

@@ -108,7 +108,7 @@ abbrev pub save_of_lines : List (List ℕ) → Board → Result Listing SaveRefu
 save_of_lines lines tiles = listing_of tiles (first_fault tiles [] lines) (programs_of tiles lines (range_with_len 0 (length tiles.kinds)))
 
 -- the listing that a text gives on these tiles
-abbrev pub save_of : List ℕ → Board → Result Listing SaveRefusal
+unfoldable pub save_of : List ℕ → Board → Result Listing SaveRefusal
 save_of text tiles = save_of_lines (text_lines text) tiles
 
 -- ---- both

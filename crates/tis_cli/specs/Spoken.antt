@@ -1,5 +1,5 @@
 -- A command as the program holds it.
-use Rattle.std.specs.Prelude.{◌≡◌, Option, Some, None, option_map}
+use Rattle.std.specs.Prelude.{◌≡◌, Option, option_map}
 use Rattle.tis_cli.specs.declared.command.Command as spoken
 use Rattle.tis_cli.specs.declared.command.Command.TheVariants as held
 use Rattle.tis_cli.specs.Commands.{Command, Compile}

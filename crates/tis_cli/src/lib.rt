@@ -5,10 +5,10 @@ mod command;
 mod laws;
 mod net_emit;
 mod net_syntax;
+mod run;
 mod status;
 mod tis_save;
-mod run;
 
 pub use laws::saves_read_back;
-pub use status::{Refusal, Status, describe};
 pub use run::tool;
+pub use status::{Refusal, Status, describe};
