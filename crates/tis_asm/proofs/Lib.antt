@@ -2,3 +2,4 @@ pub mod Texts
 pub mod Listings
 pub mod Passing
 pub mod Counting
+pub mod ReadingBack

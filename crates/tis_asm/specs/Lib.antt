@@ -5,3 +5,4 @@ pub mod Node
 pub mod PortRuns
 pub mod Passing
 pub mod Counting
+pub mod ReadingBack

@@ -1,6 +1,7 @@
-//! Laws of the nodes: what each small program does, whatever its neighbours do.
+//! Laws of the nodes and of their programs: what each small program does, whatever its neighbours do, and that a text is read as it was written.
 ghost use Rattle.tis_asm.specs.Counting.{StepsAddUp};
 ghost use Rattle.tis_asm.specs.Passing.{MovesPassValues, EmptyProgramsRest};
+ghost use Rattle.tis_asm.specs.ReadingBack.{ProgramsReadBack, LinesReadBack};
 
 /// A node whose program is one `MOV` between ports passes each value on, in order.
 pub fn moves_pass_values()
@@ -15,4 +16,14 @@ pub fn empty_programs_rest()
 /// Each step of a node is local, or takes a value, or gives one.
 pub fn steps_add_up()
     ensures { StepsAddUp }
+{}
+
+/// The canonical text of a program is read as that program.
+pub fn programs_read_back()
+    ensures { ProgramsReadBack }
+{}
+
+/// The canonical lines of a program are read as that program, whatever blank lines follow.
+pub fn lines_read_back()
+    ensures { LinesReadBack }
 {}

@@ -8,7 +8,9 @@ mod programs;
 mod text;
 
 pub use instr::{Dest, Instr, Source};
-pub use laws::{empty_programs_rest, moves_pass_values, steps_add_up};
+pub use laws::{
+    empty_programs_rest, lines_read_back, moves_pass_values, programs_read_back, steps_add_up,
+};
 pub use program::Program;
 pub use programs::Programs;
 pub use text::print;

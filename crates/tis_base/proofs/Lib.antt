@@ -2,3 +2,4 @@ pub mod Texts
 pub mod Writes
 pub mod Always
 pub mod Prefixes
+pub mod TextLines

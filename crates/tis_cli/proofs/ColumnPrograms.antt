@@ -11,6 +11,7 @@ use Rattle.tis_base.specs.declared.tiles.TileKind.{TileKind}
 use Rattle.tis_base.specs.declared.tiles.TileKind.TheVariants.{Compute}
 use Rattle.tis_base.specs.declared.tiles.Dir.TheVariants.{Down}
 use Rattle.tis_asm.specs.declared.program.Line.{Line}
+use Rattle.tis_asm.specs.Listing.{IsListing}
 use Rattle.tis_grid.specs.Puzzle.{Puzzle, Input, Output, IsPuzzle}
 use Rattle.tis_grid.specs.State.{Grid, IsGrid}
 use Rattle.tis_grid.specs.Events.{program_of}
@@ -115,14 +116,15 @@ program-short column inputs outputs tile =
       | inr outside ↦ subst (λ (p : List Line). length p ≤ 15) (sym (program-outside column inputs outputs tile outside)) (omega arith)
     ]
 
+-- the programs of a column are a listing
+pub column_is_listing : (column : Column) → IsListing (compiled (column_net column))
+column_is_listing column =
+    record {
+      one_each = refl;
+      short = program-short column [] [];
+      elsewhere = λ tile apart. elim (cases_lt tile 12) [ inl inside ↦ absurd (apart (is_compute-plain tile inside)) | inr outside ↦ program-outside column [] [] tile outside ];
+    }
+
 -- the programs are for the tiles
 pub column_is_grid : (column : Column) (inputs : List Input) (outputs : List Output) → IsPuzzle (plain_puzzle inputs outputs) → IsGrid (column_grid column inputs outputs)
-column_is_grid column inputs outputs is_puzzle =
-    record {
-      puzzle = is_puzzle;
-      programs = record {
-        one_each = refl;
-        short = program-short column inputs outputs;
-        elsewhere = λ tile apart. elim (cases_lt tile 12) [ inl inside ↦ absurd (apart (is_compute-plain tile inside)) | inr outside ↦ program-outside column inputs outputs tile outside ];
-      };
-    }
+column_is_grid column inputs outputs is_puzzle = record { puzzle = is_puzzle; programs = column_is_listing column }

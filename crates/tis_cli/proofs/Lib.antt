@@ -11,3 +11,6 @@ pub mod Stack
 pub mod ColumnKahn
 pub mod ColumnPrograms
 pub mod Columns
+pub mod SaveLines
+pub mod SavesReadBack
+pub mod Examples

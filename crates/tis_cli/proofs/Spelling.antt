@@ -14,7 +14,7 @@ some_is : {A : Type 0} {x y : A} → Some x ≡ Some y → x ≡ y
 some_is e = cc
 
 -- names that are not the same
-not_same : (a b : List ℕ) → (a ≡ b → ⊥) → bytes_eq a b ≡ false
+pub not_same : (a b : List ℕ) → (a ≡ b → ⊥) → bytes_eq a b ≡ false
 not_same a b differ =
     elim (bytes_eq a b) as (λ (same : Bool). bytes_eq a b ≡ same → same ≡ false) [
       | true ↦ λ is. absurd (differ ((bytes_eq-Decides a b).0 is))

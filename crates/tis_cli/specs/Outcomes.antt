@@ -11,7 +11,7 @@ use Rattle.tis_cli.specs.Net.{Net}
 use Rattle.tis_cli.specs.Column.{NetOf}
 use Rattle.tis_cli.specs.Compiled.{compiled}
 use Rattle.tis_cli.specs.Carries.{Carries}
-use Rattle.tis_cli.specs.Saves.{save_text}
+use Rattle.tis_cli.specs.Saves.{save_text, save_of}
 
 -- the words, each as its bytes
 abbrev pub words_of : List (String Global) → List (List ℕ)
@@ -27,13 +27,14 @@ pub record IsRefused (text : List ℕ) (refusal : Refusal) : Type 0 where
   pub no_network : (net : Net) → NetOf text net → ⊥
   pub form : refusal ≡ NotThisForm
 
--- the text under the name of the network is one, and nothing changed but that the canonical save of its programs stands under the name of the save; on every grid of a puzzle that fits, these programs follow the network in every order
+-- the text under the name of the network is one, and nothing changed but that the canonical save of its programs stands under the name of the save; that save is read as these programs, and on every grid of a puzzle that fits they follow the network in every order
 pub record Saved (name save : List ℕ) (old : Texts) (new : Option Texts) : Type 0 where
   pub text : List ℕ
   pub net : Net
   pub stands : text_at old name ≡ Some text
   pub is_net : NetOf text net
   pub kept : new ≡ Some (with_text old save (save_text (compiled net)))
+  pub reads_back : save_of (save_text (compiled net)) net.tiles ≡ Ok (compiled net)
   pub carries : Carries (compiled net) net
 
 -- this status, or a fault of the store or want of memory in its place

@@ -2,12 +2,14 @@
 #![tactic(auto)]
 
 mod command;
+mod laws;
 mod net_emit;
 mod net_syntax;
 mod run;
 mod status;
 mod tis_save;
 
+pub use laws::saves_read_back;
 pub use run::tool;
 pub use status::{Refusal, Status, describe};
 
