@@ -2,10 +2,9 @@
 #![tactic(auto)]
 
 use std::alloc::Global;
-use std::env;
 use std::process::ExitCode;
 use std::rt::{Env, Files};
-use std::str;
+use std::{env, str};
 use tis_base::{FileStore, OutSink, Sink};
 use tis_cli::{Status, describe, tool};
 

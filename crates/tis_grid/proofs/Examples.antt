@@ -1,6 +1,5 @@
 -- Worked examples of events and orders: three tiles of a column that pass values on.
-use Rattle.std.proofs.Common.{◌≡◌, ℕ, ℤ, pos, false, List, [], ◌∷◌, replicate, refl, lit<}
-use Rattle.tis_base.specs.Tiles.{Board}
+use Rattle.std.proofs.Common.{◌≡◌, pos, false, List, [], ◌∷◌, replicate, refl, lit<}
 use Rattle.tis_base.specs.declared.tiles.Dir.TheVariants.{Up, Down, Right}
 use Rattle.tis_base.specs.declared.tiles.TileKind.TheVariants.{Compute}
 use Rattle.tis_asm.specs.declared.instr.Source.TheVariants as from
@@ -11,7 +10,7 @@ use Rattle.tis_grid.specs.declared.event.Event.{Event}
 use Rattle.tis_grid.specs.declared.event.Event.TheVariants.{Meet, In, Out}
 use Rattle.tis_grid.specs.declared.puzzle.OutKind.TheVariants.{Stream}
 use Rattle.tis_grid.specs.Puzzle.{Puzzle}
-use Rattle.tis_grid.specs.State.{Grid, State, outs, left_at, start}
+use Rattle.tis_grid.specs.State.{Grid, outs, left_at, start}
 use Rattle.tis_grid.specs.Events.{IsEnabled}
 use Rattle.tis_grid.specs.Orders.{after, IsLegal}
 
@@ -62,11 +61,16 @@ in_the_middle = refl
 
 -- a value may come in, be met and be met again, and go out
 is_legal : IsLegal column (start column) (In 1 ∷ first_meets ∷ second_meets ∷ Out 1 ∷ [])
-is_legal =
-    ((lit< tt, lit< tt, record { compute = refl; wants = refl }),
-    ((5, refl, record { compute = refl; value = pos 5; offers = refl }, record { compute = refl; wants = refl }),
-    ((9, refl, record { compute = refl; value = pos 5; offers = refl }, record { compute = refl; wants = refl }),
-    ((lit< tt, (0, record { position = 1; kind = Stream; expected = pos 5 ∷ pos 7 ∷ [] }, lit< tt, refl, refl), record { compute = refl; value = pos 5; offers = refl }), tt))))
+is_legal = (
+  (lit< tt, lit< tt, record { compute = refl; wants = refl }),
+  (
+    (5, refl, record { compute = refl; value = pos 5; offers = refl }, record { compute = refl; wants = refl }),
+    (
+      (9, refl, record { compute = refl; value = pos 5; offers = refl }, record { compute = refl; wants = refl }),
+      ((lit< tt, (0, record { position = 1; kind = Stream; expected = pos 5 ∷ pos 7 ∷ [] }, lit< tt, refl, refl), record { compute = refl; value = pos 5; offers = refl }), tt),
+    ),
+  ),
+)
 
 -- it can't go out before the second tile was met
 is_early : IsEnabled column (after column (start column) (In 1 ∷ first_meets ∷ [])) (Out 1) → ⊥
