@@ -1,5 +1,5 @@
 -- The bodies of the processes of a column, by what they are made of.
-use Rattle.std.proofs.Common.{◌≡◌, ℕ, ◌+◌, ◌≤◌, ℤ, ◌+ℤ◌, ◌-ℤ◌, neg_ℤ, List, [], ◌∷◌, ◌++◌, length, refl, sym, ap, subst, arith}
+use Rattle.std.proofs.Common.{◌≡◌, ℕ, ◌≤◌, ℤ, ◌+ℤ◌, ◌-ℤ◌, neg_ℤ, List, [], ◌∷◌, ◌++◌, length, sym, ap, subst, arith}
 use Rattle.tis_base.specs.Saturation.{sat}
 use Rattle.tis_cli.specs.Net.{Name, X, Statement, Get, Put, PutNumber, Move, Set, Add, Sub, Neg, Double}
 use Rattle.tis_cli.specs.Column.{IsOperation, SendsOn, AreOperations, ComputesAndSends, IsBody}

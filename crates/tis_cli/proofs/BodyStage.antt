@@ -1,22 +1,19 @@
 -- The code of each body of a column behaves as its process, and is a stage.
-use Rattle.std.proofs.Common.{◌≡◌, ◌≢◌, ℕ, ◌+◌, ◌*◌, ◌<◌, ◌≤◌, ℤ, List, [], ◌∷◌, ◌++◌, length, map, Some, refl, sym, ap, subst, ◌∙◌, append-nil, arith}
-use Rattle.std.specs.Prelude.{IsTrue}
+use Rattle.std.proofs.Common.{◌≡◌, ℕ, ◌+◌, ◌*◌, ◌≤◌, ℤ, List, [], ◌∷◌, ◌++◌, length, map, sym, ap, ◌∙◌, append-nil, arith}
 use Rattle.std.proofs.Math.Nat.{mul-le-mul_left}
 use Rattle.std.proofs.lemmas.List.{length-map, map-append}
 use Rattle.tis_base.specs.Prefix.{IsPrefixOf}
-use Rattle.tis_base.specs.declared.tiles.Dir.{Dir}
 use Rattle.tis_base.specs.declared.tiles.Dir.TheVariants.{Up, Down}
-use Rattle.tis_asm.specs.Node.{Node, fresh, wants, offers}
-use Rattle.tis_asm.specs.PortRuns.{Step, IsPortRun, after_steps, taken_from, given_to}
+use Rattle.tis_asm.specs.Node.{Node, fresh}
+use Rattle.tis_asm.specs.PortRuns.{Step, after_steps, taken_from, given_to}
 use Rattle.tis_cli.specs.Net.{Name, Statement}
-use Rattle.tis_cli.specs.Column.{IsBody}
-use Rattle.tis_cli.specs.Process.{Doing, Outcome, Ending, WaitsOn, OutOfFuel, rounds, beginning}
+use Rattle.tis_cli.specs.Process.{WaitsOn, OutOfFuel, beginning}
 use Rattle.tis_cli.specs.Compiled.{code_of}
 use Rattle.tis_cli.specs.Behaves.{stream_of, process_over, BehavesAfter, Behaves, ProcessesBehave}
 use Rattle.tis_cli.specs.Stage.{WorksAs, Stage}
 use Rattle.tis_cli.proofs.Bodies.{Round, Moves, Computes, round_value, round_local, round_of}
 use Rattle.tis_cli.proofs.Rounds.{with_stream-same, SendsAll, sends_all}
-use Rattle.tis_cli.proofs.Places.{Stands, RunStands, run_stands}
+use Rattle.tis_cli.proofs.Places.{RunStands, run_stands}
 
 -- a round has fewer local steps than its body has statements
 round_local_few : {read written : Name} {body : List Statement} (round : Round read written body) → round_local round ≤ length body

@@ -1,21 +1,22 @@
 -- The streams of a column's network.
-use Rattle.std.proofs.Common.{◌≡◌, ◌≢◌, ℕ, zero, suc, ◌+◌, ◌-◌, ◌*◌, ◌<◌, ◌≤◌, ℤ, true, false, List, [], ◌∷◌, ◌++◌, length, length-append, map, get_or, replicate, refl, sym, ap, subst, ◌∙◌, inl, inr, le_trans, arith}
+use Rattle.std.proofs.Common.{◌≡◌, ◌≢◌, ℕ, suc, ◌+◌, ◌-◌, ◌*◌, ◌<◌, ◌≤◌, ℤ, true, List, [], ◌∷◌, ◌++◌, length, length-append, map, get_or, replicate, refl, sym, ap, ◌∙◌, inl, inr, le_trans, arith}
 use Rattle.std.specs.Prelude.{◌⊎◌, AllPairs, sum_by, if◌then◌else◌}
 use Rattle.std.proofs.Math.Nat.{mul-le-mul_left}
 use Rattle.std.proofs.lemmas.Bool.{eq-eqb, ne_eqb}
-use Rattle.std.proofs.lemmas.List.{length-map, length-replicate}
+use Rattle.std.proofs.lemmas.List.{length-map}
 use Rattle.std.proofs.lemmas.List.Sums.{sum_by-cons}
 use Rattle.tis_grid.specs.Puzzle.{Input, values_at}
 use Rattle.tis_cli.specs.Net.{Name, Statement, ChannelLine, Process, Net}
-use Rattle.tis_cli.specs.Process.{Streams, Outcome, reads, block_cost, beginning}
+use Rattle.tis_cli.specs.Process.{Streams, reads, block_cost, beginning}
 use Rattle.tis_cli.specs.Kahn.{input_streams, readable, read_count, step_limit, run_of, joined, streams_from, kahn_streams, kahn_at, all_steps, bound}
 use Rattle.tis_cli.specs.Column.{StandInLine, channel_of, Column, links_below, IsColumn, column_net}
-use Rattle.tis_cli.specs.Stage.{Stage, made_by, most_steps}
+use Rattle.tis_cli.specs.Stage.{made_by, most_steps}
 use Rattle.tis_cli.proofs.Bodies.{Round, Moves, Computes, round_value, round_of}
 use Rattle.tis_cli.proofs.Rounds.{bytes_eq-self, with_stream-same, with_stream-other, SendsAll, sends_all}
-use Rattle.tis_cli.proofs.BodyStage.{round_stage, round_stage_few}
+use Rattle.tis_cli.proofs.Places.{both_empty}
+use Rattle.tis_cli.proofs.BodyStage.{round_stage_few}
 use Rattle.tis_cli.proofs.PassStage.{pass_stage}
-use Rattle.tis_cli.proofs.ColumnStages.{line_stages, length-line_stages, made_by-append, made_by-passes, most_steps-append, most_steps-passes, most_steps-some}
+use Rattle.tis_cli.proofs.ColumnStages.{line_stages, length-line_stages, column_stages, made_by-append, made_by-passes, most_steps-append, most_steps-passes, most_steps-some}
 
 -- ---- names
 
@@ -38,11 +39,10 @@ place_of name (first ∷ names) (inr later) = let found = place_of name names la
 -- names that differ pair by pair
 differ_from : (names : List Name) → AllPairs (λ a b. a ≢ b) names → Differ names
 differ_from [] pairs = tt
-differ_from (first ∷ names) pairs =
-    (
-      λ name among same. let found = place_of name names among in pairs 0 (suc found.0) first (omega arith) (omega (arith, found.1)) (sym same ∙ sym (found.2 first)),
-      differ_from names (λ i j d less inside. pairs (suc i) (suc j) d (omega arith) (omega arith)),
-    )
+differ_from (first ∷ names) pairs = (
+  λ name among same. let found = place_of name names among in pairs 0 (suc found.0) first (omega arith) (omega (arith, found.1)) (sym same ∙ sym (found.2 first)),
+  differ_from names (λ i j d less inside. pairs (suc i) (suc j) d (omega arith) (omega arith)),
+)
 
 -- the names that the processes of a line read can be read
 abbrev EachRead : List Name → Name → List Name → Type 0
@@ -86,7 +86,6 @@ round_reads {read = read} (Computes rest view) = rw (bytes_eq-self read) refl
 -- what stands on the name that a process reads is counted
 read_count-enough : (net : Net) (streams : Streams) (process : Process) (read : Name) → IsIn read (readable net) → reads process.body read ≡ true → length (streams read) ≤ read_count net streams process
 read_count-enough net streams process read known is_read =
-    let count : Name → ℕ = λ name. if reads process.body name then length (streams name) else 0 in
     let here : (if reads process.body read then length (streams read) else 0) ≡ length (streams read) = rw is_read refl in
     omega (arith, here, part_of_sum (λ name. if reads process.body name then length (streams name) else 0) read (readable net) known)
 
@@ -112,10 +111,6 @@ on_written : (net : Net) (streams : Streams) (process : Process) {read written :
 on_written net streams process {written = written} round known none =
     let sends = run_sends net streams process round known in
     ap (λ (front : List ℤ). front ++ (run_of net streams process).doing.sent written) none ∙ sends.sent
-
--- two lists that are empty are empty one behind the other
-both_empty : (first second : List ℤ) → first ≡ [] → second ≡ [] → first ++ second ≡ []
-both_empty first second a b = rw (a, b) refl
 
 -- names that nobody wrote stay empty
 still_empty : (net : Net) (streams : Streams) (process : Process) {read written : Name} (round : Round read written process.body) → IsIn read (readable net) → (name : Name) → name ≢ written → streams name ≡ [] → joined streams (run_of net streams process).doing.sent name ≡ []
@@ -174,16 +169,6 @@ line_bound net tile read (written ∷ names) [] line streams count known many = 
 column_known : (column : Column) → EachRead (readable (column_net column)) column.input (links_below column)
 column_known column = each_read (readable (column_net column)) column.input column.output column.channels (inl refl) (λ name among. inr (channel_known name column.channels among))
 
--- the stages of a column
-abbrev pub column_stages : (column : Column) → IsColumn column → List Stage
-column_stages column is_column = line_stages column.position column.input (links_below column) column.processes is_column.in_line ++ replicate (3 - length column.processes) pass_stage
-
--- one for each of the three rows
-pub length-column_stages : (column : Column) (is_column : IsColumn column) → length (column_stages column is_column) ≡ 3
-length-column_stages column is_column =
-    let stages = line_stages column.position column.input (links_below column) column.processes is_column.in_line in
-    omega (arith, length-append stages (replicate (3 - length column.processes) pass_stage), length-line_stages column.position column.input (links_below column) column.processes is_column.in_line, length-replicate (3 - length column.processes) pass_stage, is_column.few)
-
 -- what comes in
 input-column : (column : Column) (inputs : List Input) → input_streams (column_net column).inputs inputs column.input ≡ values_at inputs column.position
 input-column column inputs = with_stream-same (λ name. []) column.input (values_at inputs column.position)
@@ -196,7 +181,7 @@ output-column column inputs is_column =
     let differ = differ_from (column.input ∷ links_below column) is_column.links_differ in
     let streams : Streams = input_streams net.inputs inputs in
     let makes = line_makes net column.position column.input (links_below column) column.processes is_column.in_line streams (column_known column) differ.1
-        (λ name among. with_stream-other (λ other. []) column.input name (values_at inputs column.position) (differ.0 name among)) in
+    (λ name among. with_stream-other (λ other. []) column.input name (values_at inputs column.position) (differ.0 name among)) in
     ap (kahn_streams net inputs) (sym (last_name-output column.input column.output column.channels)) ∙ makes ∙ ap (made_by stages) (input-column column inputs)
     ∙ sym (made_by-append stages (replicate (3 - length column.processes) pass_stage) (values_at inputs column.position) ∙ made_by-passes (3 - length column.processes) (made_by stages (values_at inputs column.position)))
 

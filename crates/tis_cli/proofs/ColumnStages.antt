@@ -1,12 +1,13 @@
 -- The stages of a column: one for each process, and one for each tile below the last of them.
-use Rattle.std.proofs.Common.{◌≡◌, ◌≢◌, ℕ, zero, suc, ◌+◌, ◌-◌, ◌*◌, ◌<◌, ◌≤◌, ℤ, List, [], ◌∷◌, ◌++◌, length, replicate, true, false, Some, None, refl, sym, ap, subst, ◌∙◌, arith}
-use Rattle.std.specs.Prelude.{◌⊎◌, ◌==◌, ◌||◌, unwrap_or, if◌then◌else◌}
+use Rattle.std.proofs.Common.{◌≡◌, ◌≢◌, ℕ, zero, suc, ◌+◌, ◌-◌, ◌*◌, ◌<◌, ◌≤◌, ℤ, List, [], ◌∷◌, ◌++◌, length, length-append, replicate, true, false, Some, None, refl, ap, subst, ◌∙◌, arith}
+use Rattle.std.specs.Prelude.{◌==◌, unwrap_or}
 use Rattle.std.specs.List.{list_any}
 use Rattle.std.proofs.lemmas.Bool.{eq-eqb, ne_eqb, or_right}
+use Rattle.std.proofs.lemmas.List.{length-replicate}
 use Rattle.tis_asm.specs.declared.program.Line.{Line}
 use Rattle.tis_cli.specs.Net.{Name, Process}
-use Rattle.tis_cli.specs.Column.{StandInLine, tiles_below}
-use Rattle.tis_cli.specs.Compiled.{code_of, stands_at, process_code_at}
+use Rattle.tis_cli.specs.Column.{StandInLine, tiles_below, Column, links_below, IsColumn}
+use Rattle.tis_cli.specs.Compiled.{code_of, process_code_at}
 use Rattle.tis_cli.specs.Stage.{Stage, made_by, most_steps}
 use Rattle.tis_cli.proofs.Bodies.{round_of}
 use Rattle.tis_cli.proofs.BodyStage.{round_stage}
@@ -25,6 +26,16 @@ length-line_stages tile read [] [] line = refl
 length-line_stages tile read (written ∷ names) (process ∷ processes) line = ap (λ (count : ℕ). suc count) (length-line_stages (tile + 4) written names processes line.1)
 length-line_stages tile read [] (process ∷ processes) line = absurd line
 length-line_stages tile read (written ∷ names) [] line = absurd line
+
+-- the stages of a column
+abbrev pub column_stages : (column : Column) → IsColumn column → List Stage
+column_stages column is_column = line_stages column.position column.input (links_below column) column.processes is_column.in_line ++ replicate (3 - length column.processes) pass_stage
+
+-- one for each of the three rows
+pub length-column_stages : (column : Column) (is_column : IsColumn column) → length (column_stages column is_column) ≡ 3
+length-column_stages column is_column =
+    let stages = line_stages column.position column.input (links_below column) column.processes is_column.in_line in
+    omega (arith, length-append stages (replicate (3 - length column.processes) pass_stage), length-line_stages column.position column.input (links_below column) column.processes is_column.in_line, length-replicate (3 - length column.processes) pass_stage, is_column.few)
 
 -- what stages make, one part behind the other
 pub made_by-append : (front back : List Stage) (values : List ℤ) → made_by (front ++ back) values ≡ made_by back (made_by front values)
@@ -86,11 +97,10 @@ pub line_programs : (all : List Process) (other : ℕ → List Line) (tile : ℕ
     ((at : ℕ) → tile ≤ at → process_code_at all at ≡ process_code_at processes at) → HavePrograms (λ at. unwrap_or (process_code_at all at) (other at)) tile (line_stages tile read names processes line)
 line_programs all other tile read [] [] line same = tt
 line_programs all other tile read (written ∷ names) (process ∷ processes) line same =
-    let here : process_code_at (process ∷ processes) tile ≡ Some (code_of process.body) = rw (line.0.at, eq-eqb tile tile refl) refl in
-    (
+    let here : process_code_at (process ∷ processes) tile ≡ Some (code_of process.body) = rw (line.0.at, eq-eqb tile tile refl) refl in (
       rw (same tile (omega arith), here) refl,
       line_programs all other (tile + 4) written names processes line.1
-        (λ at lower. let elsewhere : tile ≢ at = λ e. omega arith in same at (omega arith) ∙ rw (line.0.at, ne_eqb tile at elsewhere) refl),
+          (λ at lower. let elsewhere : tile ≢ at = λ e. omega arith in same at (omega arith) ∙ rw (line.0.at, ne_eqb tile at elsewhere) refl),
     )
 line_programs all other tile read [] (process ∷ processes) line same = absurd line
 line_programs all other tile read (written ∷ names) [] line same = absurd line

@@ -1,126 +1,20 @@
 -- Where a node stands in a round of its process, and how each of its steps leads on.
 use Rattle.std.proofs.Common.{◌≡◌, ◌≢◌, ℕ, ◌+◌, ◌*◌, ◌<◌, ◌≤◌, ℤ, Bool, true, false, List, [], ◌∷◌, ◌++◌, length, map, Option, Some, None, refl, sym, ap, subst, ◌∙◌, append_assoc, append-nil, length-append, arith}
-use Rattle.std.proofs.lemmas.List.{length-map, map-append}
 use Rattle.std.specs.Prelude.{IsTrue, if◌then◌else◌}
-use Rattle.std.proofs.lemmas.Bool.{lt-ltb, le-ltb}
+use Rattle.std.proofs.lemmas.List.{map-append}
 use Rattle.tis_base.specs.declared.tiles.Dir.{Dir}
-use Rattle.tis_base.specs.declared.tiles.Dir.TheVariants.{Left, Right, Up, Down}
+use Rattle.tis_base.specs.declared.tiles.Dir.TheVariants.{Up, Down}
 use Rattle.tis_asm.specs.declared.instr.Instr.{Instr}
 use Rattle.tis_asm.specs.declared.program.Line.{Line}
-use Rattle.tis_asm.specs.Node.{Node, Mode, Ready, Writing, One, is_same_dir, instr_at, next_of, goes_on, is_local, can_local_in, source_of, value_at_hand, with_value, reads_from, wants, wants_in, offers, offers_in, gave, fresh}
+use Rattle.tis_asm.specs.Node.{Node, Ready, Writing, One, is_same_dir, instr_at, next_of, goes_on, is_local, reads_from, wants, offers, fresh}
 use Rattle.tis_asm.specs.PortRuns.{Step, Own, Took, Gave, IsStep, after_step, after_steps, IsPortRun, taken_by, given_by, own_by, taken_from, given_to, own_count}
 use Rattle.tis_asm.proofs.Passing.{is_same_dir-true, is_same_dir-other}
-use Rattle.tis_cli.specs.Net.{Name, X, Statement, Get, Put, PutNumber, Move, Set, Add, Sub, Neg, Double}
+use Rattle.tis_cli.specs.Net.{Name, X, Statement, Get, Move}
 use Rattle.tis_cli.specs.Column.{IsOperation, SendsOn}
-use Rattle.tis_cli.specs.Compiled.{statement_code, code_of}
+use Rattle.tis_cli.specs.Compiled.{code_of}
 use Rattle.tis_cli.specs.Stage.{Next, GoesOn, WaitsAbove, GivesBelow}
 use Rattle.tis_cli.proofs.Bodies.{Rest, Last, Then, Round, Moves, Computes, operate, sent_by, value_sent, round_value, round_local}
-
--- ---- code
-
--- the instruction of a statement
-abbrev instr_of : Statement → Option Instr
-instr_of statement = Some (statement_code statement).instr
-
--- the code behind so many statements
-code_behind : (front : List Statement) (statement : Statement) (rest : List Statement) → instr_at (code_of (front ++ statement ∷ rest)) (length front) ≡ instr_of statement
-code_behind [] statement rest = refl
-code_behind (first ∷ front) statement rest = code_behind front statement rest
-
--- the instruction of the statement at which a node stands
-instr_here : (body front : List Statement) (statement : Statement) (rest : List Statement) (pc : ℕ) → body ≡ front ++ statement ∷ rest → pc ≡ length front → instr_at (code_of body) pc ≡ instr_of statement
-instr_here body front statement rest pc is_body is_pc = rw (is_body, is_pc) (code_behind front statement rest)
-
--- the next instruction, where there is one more
-next-on : (body : List Statement) (pc : ℕ) → pc + 1 < length body → next_of (code_of body) pc ≡ pc + 1
-next-on body pc more =
-    let inside : pc + 1 < length (code_of body) = omega (arith, length-map body statement_code) in
-    rw (lt-ltb (pc + 1) (length (code_of body)) inside) refl
-
--- behind the last instruction the first follows
-next-first : (body : List Statement) (pc : ℕ) → length body ≤ pc + 1 → next_of (code_of body) pc ≡ 0
-next-first body pc last =
-    let outside : length (code_of body) ≤ pc + 1 = omega (arith, length-map body statement_code) in
-    rw (le-ltb (pc + 1) (length (code_of body)) outside) refl
-
--- an operation is local, reads no port, and does to ACC what it does to the variable
-record IsInner (statement : Statement) : Type 0 where
-  local : is_local (instr_of statement) ≡ true
-  no_port : (dir : Dir) → reads_from (instr_of statement) dir ≡ false
-
--- an operation needs no port
-inner-operation : (statement : Statement) → IsOperation statement → IsInner statement
-inner-operation (Set X number) operation = record { local = refl; no_port = λ dir. refl }
-inner-operation (Add X number) operation = record { local = refl; no_port = λ dir. refl }
-inner-operation (Sub X number) operation = record { local = refl; no_port = λ dir. refl }
-inner-operation (Neg X) operation = record { local = refl; no_port = λ dir. refl }
-inner-operation (Double X) operation = record { local = refl; no_port = λ dir. refl }
-inner-operation (Get read X) operation = absurd operation
-inner-operation (Put written X) operation = absurd operation
-inner-operation (PutNumber written number) operation = absurd operation
-inner-operation (Move read written) operation = absurd operation
-
--- nor does the first half of a statement that sends
-inner-sends : (written : Name) (statement : Statement) → SendsOn written statement → IsInner statement
-inner-sends written (Put name X) sends = record { local = refl; no_port = λ dir. refl }
-inner-sends written (PutNumber name number) sends = record { local = refl; no_port = λ dir. refl }
-inner-sends written (Get read X) sends = absurd sends
-inner-sends written (Move read name) sends = absurd sends
-inner-sends written (Set X number) sends = absurd sends
-inner-sends written (Add X number) sends = absurd sends
-inner-sends written (Sub X number) sends = absurd sends
-inner-sends written (Neg X) sends = absurd sends
-inner-sends written (Double X) sends = absurd sends
-
--- ---- a step, by the mode and the instruction
-
--- a node can make this step
-abbrev IsStepIn : Mode → Option Instr → Step → Type 0
-IsStepIn mode instr Own = IsTrue (can_local_in mode instr)
-IsStepIn mode instr (Took dir value) = IsTrue (wants_in mode instr dir)
-IsStepIn mode instr (Gave dir value) = offers_in mode dir ≡ Some value
-
--- the node after it
-abbrev after_in : Option Instr → List Line → Node → Step → Node
-after_in instr program node Own = with_value instr program node (value_at_hand (source_of instr) node)
-after_in instr program node (Took dir value) = with_value instr program node value
-after_in instr program node (Gave dir value) = gave program node dir
-
--- the same step, where mode and instruction are known
-step_in : (program : List Line) (node : Node) (mode : Mode) (instr : Option Instr) → node.mode ≡ mode → instr_at program node.pc ≡ instr → (step : Step) → IsStep program node step → IsStepIn mode instr step
-step_in program node mode instr is_mode is_instr Own can = rw (← is_mode, ← is_instr) can
-step_in program node mode instr is_mode is_instr (Took dir value) can = rw (← is_mode, ← is_instr) can
-step_in program node mode instr is_mode is_instr (Gave dir value) can = rw (← is_mode) can
-
--- and where it leads
-step_leads : (program : List Line) (node : Node) (instr : Option Instr) → instr_at program node.pc ≡ instr → (step : Step) → after_step program node step ≡ after_in instr program node step
-step_leads program node instr is_instr Own = rw is_instr refl
-step_leads program node instr is_instr (Took dir value) = rw is_instr refl
-step_leads program node instr is_instr (Gave dir value) = refl
-
--- what an operation does to the node
-operation_leads : (statement : Statement) → IsOperation statement → (program : List Line) (node : Node) → after_in (instr_of statement) program node Own ≡ goes_on program (record node { acc = operate statement node.acc })
-operation_leads (Set X number) operation program node = refl
-operation_leads (Add X number) operation program node = refl
-operation_leads (Sub X number) operation program node = refl
-operation_leads (Neg X) operation program node = refl
-operation_leads (Double X) operation program node = refl
-operation_leads (Get read X) operation program node = absurd operation
-operation_leads (Put written X) operation program node = absurd operation
-operation_leads (PutNumber written number) operation program node = absurd operation
-operation_leads (Move read written) operation program node = absurd operation
-
--- what a statement that sends does to the node
-sends_leads : (written : Name) (statement : Statement) → SendsOn written statement → (program : List Line) (node : Node) → after_in (instr_of statement) program node Own ≡ record node { mode = Writing (sent_by statement node.acc) (One Down) }
-sends_leads written (Put name X) sends program node = refl
-sends_leads written (PutNumber name number) sends program node = refl
-sends_leads written (Get read X) sends program node = absurd sends
-sends_leads written (Move read name) sends program node = absurd sends
-sends_leads written (Set X number) sends program node = absurd sends
-sends_leads written (Add X number) sends program node = absurd sends
-sends_leads written (Sub X number) sends program node = absurd sends
-sends_leads written (Neg X) sends program node = absurd sends
-sends_leads written (Double X) sends program node = absurd sends
+use Rattle.tis_cli.proofs.Instructions.{instr_here, next-on, next-first, IsInner, inner-operation, inner-sends, step_in, operation_leads, sends_leads, known_step, instr_of, IsStepIn, after_in}
 
 -- ---- places
 
@@ -253,12 +147,6 @@ offering_steps written body value_of size held instr node at_last (Gave dir valu
       counted = omega arith;
     })
 
--- a step from where mode and instruction are known
-known_step : (program : List Line) (node : Node) (mode : Mode) (instr : Option Instr) (P : Step → Node → Type 0) → node.mode ≡ mode → instr_at program node.pc ≡ instr →
-    ((step : Step) → IsStepIn mode instr step → P step (after_in instr program node step)) → (step : Step) → IsStep program node step → P step (after_step program node step)
-known_step program node mode instr P is_mode is_instr known step can =
-    subst (P step) (sym (step_leads program node instr is_instr step)) (known step (step_in program node mode instr is_mode is_instr step can))
-
 -- a step from the top of a round
 top_steps : {read written : Name} {body : List Statement} (round : Round read written body) (node : Node) → node.pc ≡ 0 → node.mode ≡ Ready → (step : Step) → IsStep (code_of body) node step →
     StepsTo written body (round_value round) (round_local round) [] 0 step (after_step (code_of body) node step)
@@ -299,7 +187,7 @@ pub record RunsTo (written : Name) (body : List Statement) (value_of : ℤ → �
   pub counted : own_count steps + to_do ≡ left + size * length (taken_from Up steps)
 
 -- two lists that are empty are empty one behind the other
-both_empty : (first second : List ℤ) → first ≡ [] → second ≡ [] → first ++ second ≡ []
+pub both_empty : (first second : List ℤ) → first ≡ [] → second ≡ [] → first ++ second ≡ []
 both_empty first second a b = rw (a, b) refl
 
 -- orders one behind the other

@@ -2,11 +2,13 @@
 #![tactic(auto)]
 
 mod command;
+mod laws;
 mod net_emit;
 mod net_syntax;
+mod run;
 mod status;
 mod tis_save;
-mod run;
 
-pub use status::{Refusal, Status, describe};
+pub use laws::processes_behave;
 pub use run::tool;
+pub use status::{Refusal, Status, describe};
