@@ -1,6 +1,8 @@
--- The program that a text spells, line by line over the whole text. So far a line is blank or a MOV between ports in capitals, with a `!` in front or none.
-use Rattle.std.specs.Prelude.{ℕ, ◌+◌, Bool, true, false, ◌||◌, List, [], ◌∷◌, ◌++◌, length, drop, filter, Option, Some, None, option_map, option_and_then, Result, Ok, Err, codes, ◌==◌, nat_lt, if◌then◌else◌}
+-- The program that a text spells, line by line over the whole text. So far a line is blank or an instruction MOV, ADD, SUB or NEG in capitals, with a `!` in front or none.
+use Rattle.std.specs.Prelude.{ℕ, ◌+◌, ◌-◌, ◌*◌, ℤ, pos, neg_ℤ, Bool, true, false, ◌||◌, List, [], ◌∷◌, ◌++◌, length, drop, filter, Option, Some, None, option_map, option_and_then, Result, Ok, Err, codes, ◌==◌, nat_lt, if◌then◌else◌}
+use Rattle.std.specs.Char.{is_ascii_digit}
 use Rattle.std.specs.List.{list_all}
+use Rattle.tis_base.specs.Saturation.{sat}
 use Rattle.std.specs.Str.{bytes_eq}
 use Rattle.tis_base.specs.declared.tiles.Dir.{Dir}
 use Rattle.tis_base.specs.declared.tiles.Dir.TheVariants.{Left, Right, Up, Down}
@@ -10,7 +12,7 @@ use Rattle.tis_asm.specs.declared.instr.Source.TheVariants as from
 use Rattle.tis_asm.specs.declared.instr.Dest.{Dest}
 use Rattle.tis_asm.specs.declared.instr.Dest.TheVariants as to
 use Rattle.tis_asm.specs.declared.instr.Instr.{Instr}
-use Rattle.tis_asm.specs.declared.instr.Instr.TheVariants.{Mov}
+use Rattle.tis_asm.specs.declared.instr.Instr.TheVariants.{Mov, Add, Sub, Neg}
 use Rattle.tis_asm.specs.declared.program.Line.{Line}
 
 -- why a text is no program
@@ -37,17 +39,54 @@ dir_of_word word =
     (if bytes_eq word (codes "UP") then Some Up else
     (if bytes_eq word (codes "DOWN") then Some Down else None)))
 
+abbrev pub is_digit : ℕ → Bool
+is_digit byte = is_ascii_digit byte
+
+-- the number that these digits are, behind the number of those before them
+abbrev pub digits_number : ℕ → List ℕ → Option ℕ
+digits_number number [] = Some number
+digits_number number (byte ∷ digits) = if is_digit byte then digits_number (10 * number + (byte - 48)) digits else None
+
+-- one or more digits
+abbrev pub number_of_digits : List ℕ → Option ℕ
+number_of_digits [] = None
+number_of_digits (byte ∷ digits) = digits_number 0 (byte ∷ digits)
+
+-- a number with a `-`, a `+` or no sign in front; past either end it is the nearest value
+abbrev pub number_of_word : List ℕ → Option ℤ
+number_of_word [] = None
+number_of_word (byte ∷ digits) =
+    if byte == 45 then option_map (λ n. sat (neg_ℤ (pos n))) (number_of_digits digits) else
+    (if byte == 43 then option_map (λ n. sat (pos n)) (number_of_digits digits) else option_map (λ n. sat (pos n)) (number_of_digits (byte ∷ digits)))
+
+-- the first that is there
+abbrev pub or_else : {A : Type 0} → Option A → Option A → Option A
+or_else None other = other
+or_else (Some x) other = Some x
+
+abbrev pub is_acc : List ℕ → Bool
+is_acc word = bytes_eq word (codes "ACC")
+
 abbrev pub source_of_word : List ℕ → Option Source
-source_of_word word = option_map (λ dir. from.Port dir) (dir_of_word word)
+source_of_word word =
+    if is_acc word then Some from.Acc else
+    or_else (option_map (λ dir. from.Port dir) (dir_of_word word)) (option_map (λ number. from.Number number) (number_of_word word))
 
 abbrev pub dest_of_word : List ℕ → Option Dest
-dest_of_word word = option_map (λ dir. to.Port dir) (dir_of_word word)
+dest_of_word word = if is_acc word then Some to.Acc else option_map (λ dir. to.Port dir) (dir_of_word word)
+
+abbrev pub mov_of_words : List ℕ → List ℕ → Option Instr
+mov_of_words source dest = option_and_then (λ s. option_map (λ d. Mov s d) (dest_of_word dest)) (source_of_word source)
 
 -- the instruction that these words are
 abbrev pub instr_of_words : List (List ℕ) → Option Instr
-instr_of_words (name ∷ source ∷ dest ∷ []) =
-    if bytes_eq name (codes "MOV") then option_and_then (λ s. option_map (λ d. Mov s d) (dest_of_word dest)) (source_of_word source) else None
-instr_of_words _ = None
+instr_of_words (name ∷ []) = if bytes_eq name (codes "NEG") then Some Neg else None
+instr_of_words (name ∷ source ∷ []) =
+    if bytes_eq name (codes "ADD") then option_map (λ s. Add s) (source_of_word source) else
+    (if bytes_eq name (codes "SUB") then option_map (λ s. Sub s) (source_of_word source) else None)
+instr_of_words (name ∷ source ∷ dest ∷ []) = if bytes_eq name (codes "MOV") then mov_of_words source dest else None
+instr_of_words [] = None
+instr_of_words (name ∷ source ∷ dest ∷ other ∷ words) = None
 
 -- whether a line begins with `!`, and what stands behind that
 abbrev pub is_marked : List ℕ → Bool

@@ -1,12 +1,14 @@
 -- One compute node: what it is, and each thing that it can do, by the instruction at its pc.
-use Rattle.std.specs.Prelude.{◌≡◌, ℕ, ◌+◌, ◌<◌, ℤ, pos, Bool, true, false, List, [], ◌∷◌, length, Option, Some, None, option_map, slice_get, nat_lt, if◌then◌else◌}
+use Rattle.std.specs.Prelude.{◌≡◌, ℕ, ◌+◌, ◌<◌, ℤ, pos, ◌+ℤ◌, ◌-ℤ◌, neg_ℤ, Bool, true, false, List, [], ◌∷◌, length, Option, Some, None, option_map, slice_get, nat_lt, if◌then◌else◌}
+use Rattle.tis_base.specs.Saturation.{sat}
 use Rattle.tis_base.specs.declared.tiles.Dir.{Dir}
 use Rattle.tis_base.specs.declared.tiles.Dir.TheVariants.{Left, Right, Up, Down}
+use Rattle.tis_asm.specs.declared.instr.Source.{Source}
 use Rattle.tis_asm.specs.declared.instr.Source.TheVariants as from
 use Rattle.tis_asm.specs.declared.instr.Dest.{Dest}
 use Rattle.tis_asm.specs.declared.instr.Dest.TheVariants as to
 use Rattle.tis_asm.specs.declared.instr.Instr.{Instr}
-use Rattle.tis_asm.specs.declared.instr.Instr.TheVariants.{Mov}
+use Rattle.tis_asm.specs.declared.instr.Instr.TheVariants.{Mov, Add, Sub, Neg}
 use Rattle.tis_asm.specs.declared.program.Line.{Line}
 
 -- where a value is written to: one port, or the first neighbour that reads
@@ -57,10 +59,19 @@ FitsProgram (line ∷ program) node = node.pc < length (line ∷ program)
 
 -- ---- local steps
 
+-- whether a source has its value without a port
+abbrev pub is_at_hand : Source → Bool
+is_at_hand (from.Number number) = true
+is_at_hand from.Acc = true
+is_at_hand (from.Port port) = false
+
 -- whether the instruction, at a node that is ready, needs no port to go on
 abbrev pub is_local : Option Instr → Bool
 is_local None = false
-is_local (Some (Mov (from.Port port) dest)) = false
+is_local (Some (Mov source dest)) = is_at_hand source
+is_local (Some (Add source)) = is_at_hand source
+is_local (Some (Sub source)) = is_at_hand source
+is_local (Some Neg) = true
 
 abbrev pub can_local_in : Mode → Option Instr → Bool
 can_local_in Ready instr = is_local instr
@@ -70,21 +81,54 @@ can_local_in (Writing value toward) instr = false
 abbrev pub can_local : List Line → Node → Bool
 can_local program node = can_local_in node.mode (instr_at program node.pc)
 
--- what the instruction does without a port
-abbrev pub local_by : Option Instr → List Line → Node → Node
-local_by None program node = node
-local_by (Some (Mov (from.Port port) dest)) program node = node
+-- the value of a source that needs no port
+abbrev pub value_of : Source → Node → ℤ
+value_of (from.Number number) node = number
+value_of from.Acc node = node.acc
+value_of (from.Port port) node = pos 0
+
+-- a value goes where the instruction says: into ACC, and the node goes on, or to a port, where it waits with the pc as it is
+abbrev pub put_to : Dest → List Line → Node → ℤ → Node
+put_to to.Acc program node value = goes_on program (record node { acc = value })
+put_to (to.Port port) program node value = record node { mode = Writing value (One port) }
+
+-- what the instruction does with the value of its source; NEG has none
+abbrev pub with_value : Option Instr → List Line → Node → ℤ → Node
+with_value None program node value = node
+with_value (Some (Mov source dest)) program node value = put_to dest program node value
+with_value (Some (Add source)) program node value = goes_on program (record node { acc = sat (node.acc +ℤ value) })
+with_value (Some (Sub source)) program node value = goes_on program (record node { acc = sat (node.acc -ℤ value) })
+with_value (Some Neg) program node value = goes_on program (record node { acc = sat (neg_ℤ node.acc) })
+
+-- the source of the instruction, where it has one
+abbrev pub source_of : Option Instr → Option Source
+source_of None = None
+source_of (Some (Mov source dest)) = Some source
+source_of (Some (Add source)) = Some source
+source_of (Some (Sub source)) = Some source
+source_of (Some Neg) = None
+
+-- the value that the instruction has at hand
+abbrev pub value_at_hand : Option Source → Node → ℤ
+value_at_hand None node = pos 0
+value_at_hand (Some source) node = value_of source node
 
 -- the node after a local step
 abbrev pub local_step : List Line → Node → Node
-local_step program node = local_by (instr_at program node.pc) program node
+local_step program node = with_value (instr_at program node.pc) program node (value_at_hand (source_of (instr_at program node.pc)) node)
 
 -- ---- reading from a port
 
+-- whether a source is this port
+abbrev pub is_port : Option Source → Dir → Bool
+is_port None dir = false
+is_port (Some (from.Number number)) dir = false
+is_port (Some from.Acc) dir = false
+is_port (Some (from.Port port)) dir = is_same_dir port dir
+
 -- whether the instruction reads from this port
 abbrev pub reads_from : Option Instr → Dir → Bool
-reads_from None dir = false
-reads_from (Some (Mov (from.Port port) dest)) dir = is_same_dir port dir
+reads_from instr dir = is_port (source_of instr) dir
 
 abbrev pub wants_in : Mode → Option Instr → Dir → Bool
 wants_in Ready instr dir = reads_from instr dir
@@ -94,17 +138,9 @@ wants_in (Writing value toward) instr dir = false
 abbrev pub wants : List Line → Node → Dir → Bool
 wants program node dir = wants_in node.mode (instr_at program node.pc) dir
 
--- a value goes where the instruction says: to a port it waits there, with the pc as it is
-abbrev pub put_to : Dest → List Line → Node → ℤ → Node
-put_to (to.Port port) program node value = record node { mode = Writing value (One port) }
-
-abbrev pub take_by : Option Instr → List Line → Node → Dir → ℤ → Node
-take_by None program node dir value = node
-take_by (Some (Mov (from.Port port) dest)) program node dir value = put_to dest program node value
-
 -- the node after it took a value from a port
 abbrev pub take_value : List Line → Node → Dir → ℤ → Node
-take_value program node dir value = take_by (instr_at program node.pc) program node dir value
+take_value program node dir value = with_value (instr_at program node.pc) program node value
 
 -- ---- writing to a port
 

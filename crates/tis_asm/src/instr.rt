@@ -5,11 +5,15 @@ ghost use Rattle.tis_asm.specs.declared.instr.Source.TheVariants as from;
 ghost use Rattle.tis_asm.specs.declared.instr.Dest.TheVariants as to;
 ghost use Rattle.tis_asm.specs.declared.instr.Instr.TheVariants.{Mov};
 
-use tis_base::Dir;
+use tis_base::{Dir, Value};
 
 /// Where an instruction reads its value.
 #[derive(Clone, Copy, Debug, PartialEq, Eq, Hash)]
 pub enum Source {
+    /// This number.
+    Number(Value),
+    /// The register ACC.
+    Acc,
     /// The port in this direction: the node waits until its neighbour there writes.
     Port(Dir),
 }
@@ -17,6 +21,8 @@ pub enum Source {
 /// Where an instruction writes its value.
 #[derive(Clone, Copy, Debug, PartialEq, Eq, Hash)]
 pub enum Dest {
+    /// The register ACC.
+    Acc,
     /// The port in this direction: the node waits until its neighbour there reads.
     Port(Dir),
 }
@@ -26,6 +32,12 @@ pub enum Dest {
 pub enum Instr {
     /// `MOV`: reads a value and writes it.
     Mov(Source, Dest),
+    /// `ADD`: adds a value to ACC.
+    Add(Source),
+    /// `SUB`: subtracts a value from ACC.
+    Sub(Source),
+    /// `NEG`: turns the sign of ACC.
+    Neg,
 }
 
 impl Default for Instr {

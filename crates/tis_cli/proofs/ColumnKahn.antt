@@ -1,96 +1,211 @@
 -- The streams of a column's network.
-use Rattle.std.proofs.Common.{◌≡◌, ◌≢◌, ℕ, zero, suc, ◌+◌, ◌*◌, ◌<◌, ◌≤◌, ℤ, true, false, List, [], ◌∷◌, ◌++◌, length, length-append, Some, refl, sym, ap, ◌∙◌, append-nil, append_assoc, arith}
-use Rattle.std.specs.Str.{bytes_eq}
-use Rattle.std.proofs.lemmas.Bool.{eq-eqb, ne_eqb, false_from_ne_true}
-use Rattle.std.proofs.lemmas.Slice.Eq.{bytes_eq-Decides}
+use Rattle.std.proofs.Common.{◌≡◌, ◌≢◌, ℕ, suc, ◌+◌, ◌-◌, ◌*◌, ◌<◌, ◌≤◌, ℤ, true, List, [], ◌∷◌, ◌++◌, length, length-append, map, get_or, replicate, refl, sym, ap, ◌∙◌, inl, inr, le_trans, arith}
+use Rattle.std.specs.Prelude.{◌⊎◌, AllPairs, sum_by, if◌then◌else◌}
+use Rattle.std.proofs.Math.Nat.{mul-le-mul_left}
+use Rattle.std.proofs.lemmas.Bool.{eq-eqb, ne_eqb}
+use Rattle.std.proofs.lemmas.List.{length-map}
+use Rattle.std.proofs.lemmas.List.Sums.{sum_by-cons}
 use Rattle.tis_grid.specs.Puzzle.{Input, values_at}
-use Rattle.tis_cli.specs.Net.{Name, Move, Process}
-use Rattle.tis_cli.specs.Process.{Streams, with_stream, Doing, rounds, beginning}
-use Rattle.tis_cli.specs.Kahn.{input_streams, read_count, step_limit, run_of, kahn_streams, kahn_at, all_steps, bound}
-use Rattle.tis_cli.specs.Column.{Column, IsColumn, column_net}
+use Rattle.tis_cli.specs.Net.{Name, Statement, ChannelLine, Process, Net}
+use Rattle.tis_cli.specs.Process.{Streams, reads, block_cost, beginning}
+use Rattle.tis_cli.specs.Kahn.{input_streams, readable, read_count, step_limit, run_of, joined, streams_from, kahn_streams, kahn_at, all_steps, bound}
+use Rattle.tis_cli.specs.Column.{StandInLine, channel_of, Column, links_below, IsColumn, column_net}
+use Rattle.tis_cli.specs.Stage.{made_by, most_steps}
+use Rattle.tis_cli.proofs.Bodies.{Round, Moves, Computes, round_value, round_of}
+use Rattle.tis_cli.proofs.Rounds.{bytes_eq-self, with_stream-same, with_stream-other, SendsAll, sends_all}
+use Rattle.tis_cli.proofs.Places.{both_empty}
+use Rattle.tis_cli.proofs.BodyStage.{round_stage_few}
+use Rattle.tis_cli.proofs.PassStage.{pass_stage}
+use Rattle.tis_cli.proofs.ColumnStages.{line_stages, length-line_stages, column_stages, made_by-append, made_by-passes, most_steps-append, most_steps-passes, most_steps-some}
 
--- a name is the same as itself
-bytes_eq-self : (name : Name) → bytes_eq name name ≡ true
-bytes_eq-self name = (bytes_eq-Decides name name).1 refl
+-- ---- names
 
--- names that differ
-bytes_eq-other : (a b : Name) → a ≢ b → bytes_eq a b ≡ false
-bytes_eq-other a b apart = false_from_ne_true (bytes_eq a b) (λ e. apart ((bytes_eq-Decides a b).0 e))
+-- the name is one of these
+abbrev IsIn : Name → List Name → Type 0
+IsIn name [] = ⊥
+IsIn name (first ∷ names) = (first ≡ name) ⊎ IsIn name names
 
--- what was put under a name stands there
-with_stream-same : (streams : Streams) (name : Name) (values : List ℤ) → with_stream streams name values name ≡ values
-with_stream-same streams name values = rw (bytes_eq-self name) refl
+-- no two of the names are the same
+abbrev Differ : List Name → Type 0
+Differ [] = Unit {0}
+Differ (first ∷ names) = ((name : Name) → IsIn name names → name ≢ first) × Differ names
 
--- what stands under other names stays
-with_stream-other : (streams : Streams) (name other : Name) (values : List ℤ) → other ≢ name → with_stream streams name values other ≡ streams other
-with_stream-other streams name other values apart = rw (bytes_eq-other other name apart) refl
+-- a name that is one of these has a place among them
+place_of : (name : Name) (names : List Name) → IsIn name names → (place : ℕ) × (place < length names) × ((d : Name) → get_or names place d ≡ name)
+place_of name [] among = absurd among
+place_of name (first ∷ names) (inl same) = (0, omega arith, λ d. same)
+place_of name (first ∷ names) (inr later) = let found = place_of name names later in (suc found.0, omega (arith, found.1), found.2)
 
--- after one round that read this value and left these
-abbrev moved : Name → Name → ℤ → List ℤ → Doing → Doing
-moved read written value rest doing =
-    record {
-      x = doing.x;
-      y = doing.y;
-      unread = with_stream doing.unread read rest;
-      sent = with_stream doing.sent written (doing.sent written ++ value ∷ []);
-      steps = doing.steps + 1 + 1;
-    }
+-- names that differ pair by pair
+differ_from : (names : List Name) → AllPairs (λ a b. a ≢ b) names → Differ names
+differ_from [] pairs = tt
+differ_from (first ∷ names) pairs = (
+  λ name among same. let found = place_of name names among in pairs 0 (suc found.0) first (omega arith) (omega (arith, found.1)) (sym same ∙ sym (found.2 first)),
+  differ_from names (λ i j d less inside. pairs (suc i) (suc j) d (omega arith) (omega arith)),
+)
 
--- with rounds enough, a process that moves values from one name to another sends all that it can read
-sends_all : (read written : Name) (values : List ℤ) (fuel : ℕ) (doing : Doing) → length values < fuel → doing.unread read ≡ values → (rounds fuel (Move read written ∷ []) doing).doing.sent written ≡ doing.sent written ++ values
-sends_all read written values zero doing enough is = absurd (omega arith)
-sends_all read written [] (suc fuel) doing enough is = rw is (sym (append-nil (doing.sent written)))
-sends_all read written (value ∷ values) (suc fuel) doing enough is =
-    let later = sends_all read written values fuel (moved read written value values doing) (omega arith) (with_stream-same doing.unread read values) in
-    let sent = with_stream-same doing.sent written (doing.sent written ++ value ∷ []) in
-    rw is (later ∙ ap (λ (front : List ℤ). front ++ values) sent ∙ append_assoc (doing.sent written) (value ∷ []) values)
+-- the names that the processes of a line read can be read
+abbrev EachRead : List Name → Name → List Name → Type 0
+EachRead known read [] = Unit {0}
+EachRead known read (written ∷ names) = IsIn read known × EachRead known written names
 
--- the one process of a column's network
-abbrev process_of : Column → Process
-process_of column = record { name = column.process; at = Some column.position; body = Move column.input column.output ∷ [] }
+-- the last name of a line
+abbrev last_name : Name → List Name → Name
+last_name read [] = read
+last_name read (written ∷ names) = last_name written names
 
--- the process reads the input alone
-read_count-column : (column : Column) (streams : Streams) → read_count (column_net column) streams (process_of column) ≡ length (streams column.input)
-read_count-column column streams = rw (bytes_eq-self column.input) (omega arith)
+-- the output is the last one
+last_name-output : (read output : Name) (channels : List Name) → last_name read (channels ++ output ∷ []) ≡ output
+last_name-output read output [] = refl
+last_name-output read output (channel ∷ channels) = last_name-output channel output channels
 
--- the most steps of the process
-step_limit-column : (column : Column) (streams : Streams) → step_limit (column_net column) streams (process_of column) ≡ (1 + length (streams column.input)) * 4
-step_limit-column column streams = ap (λ (count : ℕ). (1 + count) * 4) (read_count-column column streams)
+-- where the channels can be read, all that is read can be read
+each_read : (known : List Name) (read output : Name) (channels : List Name) → IsIn read known → ((name : Name) → IsIn name channels → IsIn name known) → EachRead known read (channels ++ output ∷ [])
+each_read known read output [] here all = (here, tt)
+each_read known read output (channel ∷ channels) here all = (here, each_read known channel output channels (all channel (inl refl)) (λ name among. all name (inr among)))
+
+-- a channel can be read by its name
+channel_known : (name : Name) (channels : List Name) → IsIn name channels → IsIn name (map (λ (channel : ChannelLine). channel.name) (map channel_of channels))
+channel_known name [] among = absurd among
+channel_known name (channel ∷ channels) (inl same) = inl same
+channel_known name (channel ∷ channels) (inr later) = inr (channel_known name channels later)
+
+-- ---- counts
+
+-- a part of a sum
+part_of_sum : (f : Name → ℕ) (name : Name) (names : List Name) → IsIn name names → f name ≤ sum_by f names
+part_of_sum f name [] among = absurd among
+part_of_sum f name (first ∷ names) (inl same) = omega (arith, sum_by-cons f first names, ap f same)
+part_of_sum f name (first ∷ names) (inr later) = omega (arith, sum_by-cons f first names, part_of_sum f name names later)
+
+-- a round reads from the name that it reads
+round_reads : {read written : Name} {body : List Statement} → Round read written body → reads body read ≡ true
+round_reads {read = read} Moves = rw (bytes_eq-self read) refl
+round_reads {read = read} (Computes rest view) = rw (bytes_eq-self read) refl
+
+-- what stands on the name that a process reads is counted
+read_count-enough : (net : Net) (streams : Streams) (process : Process) (read : Name) → IsIn read (readable net) → reads process.body read ≡ true → length (streams read) ≤ read_count net streams process
+read_count-enough net streams process read known is_read =
+    let here : (if reads process.body read then length (streams read) else 0) ≡ length (streams read) = rw is_read refl in
+    omega (arith, here, part_of_sum (λ name. if reads process.body name then length (streams name) else 0) read (readable net) known)
+
+-- each statement costs one step
+block_cost-length : (body : List Statement) → block_cost body ≡ length body
+block_cost-length [] = refl
+block_cost-length (statement ∷ body) = omega (arith, block_cost-length body)
+
+-- more values leave room for more steps
+more_room : (few many size : ℕ) → few ≤ many → (1 + few) * (2 + 2 * size) ≤ (1 + many) * (2 + 2 * size)
+more_room few many size le = omega (arith, mul-le-mul_left size le)
+
+-- ---- streams
+
+-- a process of the line over the streams before it: it sends one value for each that it reads
+run_sends : (net : Net) (streams : Streams) (process : Process) {read written : Name} (round : Round read written process.body) → IsIn read (readable net) → SendsAll read written (round_value round) (length process.body) (streams read) (beginning streams) (run_of net streams process)
+run_sends net streams process {read = read} round known =
+    let few = read_count-enough net streams process read known (round_reads round) in
+    sends_all round (streams read) (step_limit net streams process + 1) (beginning streams) (omega arith) refl
+
+-- what the process sends stands on the name that it writes
+on_written : (net : Net) (streams : Streams) (process : Process) {read written : Name} (round : Round read written process.body) → IsIn read (readable net) → streams written ≡ [] → joined streams (run_of net streams process).doing.sent written ≡ map (round_value round) (streams read)
+on_written net streams process {written = written} round known none =
+    let sends = run_sends net streams process round known in
+    ap (λ (front : List ℤ). front ++ (run_of net streams process).doing.sent written) none ∙ sends.sent
+
+-- names that nobody wrote stay empty
+still_empty : (net : Net) (streams : Streams) (process : Process) {read written : Name} (round : Round read written process.body) → IsIn read (readable net) → (name : Name) → name ≢ written → streams name ≡ [] → joined streams (run_of net streams process).doing.sent name ≡ []
+still_empty net streams process round known name apart none =
+    let sends = run_sends net streams process round known in
+    both_empty (streams name) ((run_of net streams process).doing.sent name) none (sends.others name apart)
+
+-- the last name of a line has what all its stages make of the first
+line_makes : (net : Net) (tile : ℕ) (read : Name) (names : List Name) (processes : List Process) (line : StandInLine tile read names processes) (streams : Streams) →
+    EachRead (readable net) read names → Differ names → ((name : Name) → IsIn name names → streams name ≡ []) →
+    streams_from net processes streams (last_name read names) ≡ made_by (line_stages tile read names processes line) (streams read)
+line_makes net tile read [] [] line streams known differ fresh = refl
+line_makes net tile read (written ∷ names) (process ∷ processes) line streams known differ fresh =
+    let round = round_of read written process.body line.0.body in
+    let next : Streams = joined streams (run_of net streams process).doing.sent in
+    let later = line_makes net (tile + 4) written names processes line.1 next known.1 differ.1 (λ name among. still_empty net streams process round known.0 name (differ.0 name among) (fresh name (inr among))) in
+    later ∙ ap (made_by (line_stages (tile + 4) written names processes line.1)) (on_written net streams process round known.0 (fresh written (inl refl)))
+line_makes net tile read [] (process ∷ processes) line streams known differ fresh = absurd line
+line_makes net tile read (written ∷ names) [] line streams known differ fresh = absurd line
+
+-- processes only add to the streams
+streams_grow : (net : Net) (processes : List Process) (streams : Streams) (name : Name) → length (streams name) ≤ length (streams_from net processes streams name)
+streams_grow net [] streams name = omega arith
+streams_grow net (process ∷ processes) streams name =
+    let sent = (run_of net streams process).doing.sent in
+    omega (arith, streams_grow net processes (joined streams sent) name, length-append (streams name) (sent name))
+
+-- the most steps of a process, where at least so many values stand on the name that it reads
+limit_enough : (net : Net) (streams : Streams) (process : Process) {read written : Name} (round : Round read written process.body) (count : ℕ) → IsIn read (readable net) → count ≤ length (streams read) → (1 + count) * (2 + 2 * length process.body) ≤ step_limit net streams process
+limit_enough net streams process {read = read} round count known many =
+    let few = read_count-enough net streams process read known (round_reads round) in
+    let size : step_limit net streams process ≡ (1 + read_count net streams process) * (2 + 2 * length process.body) = ap (λ (cost : ℕ). (1 + read_count net streams process) * (2 + 2 * cost)) (block_cost-length process.body) in
+    omega (arith, size, more_room count (read_count net streams process) (length process.body) (omega arith))
+
+-- the stages of a line make no more steps than its processes may
+line_bound : (net : Net) (tile : ℕ) (read : Name) (names : List Name) (processes : List Process) (line : StandInLine tile read names processes) (streams : Streams) (count : ℕ) →
+    EachRead (readable net) read names → count ≤ length (streams read) →
+    most_steps (line_stages tile read names processes line) count ≤ sum_by (step_limit net (streams_from net processes streams)) processes
+line_bound net tile read [] [] line streams count known many = omega arith
+line_bound net tile read (written ∷ names) (process ∷ processes) line streams count known many =
+    let round = round_of read written process.body line.0.body in
+    let sent = (run_of net streams process).doing.sent in
+    let last : Streams = streams_from net processes (joined streams sent) in
+    let sends = run_sends net streams process round known.0 in
+    let all : length (sent written) ≡ length (streams read) = ap length sends.sent ∙ length-map (streams read) (round_value round) in
+    let more : count ≤ length (joined streams sent written) = omega (arith, length-append (streams written) (sent written)) in
+    let later = line_bound net (tile + 4) written names processes line.1 (joined streams sent) count known.1 more in
+    let here = limit_enough net last process round count known.0 (le_trans many (streams_grow net (process ∷ processes) streams read)) in
+    omega (arith, sum_by-cons (step_limit net last) process processes, later, here, round_stage_few round count)
+line_bound net tile read [] (process ∷ processes) line streams count known many = absurd line
+line_bound net tile read (written ∷ names) [] line streams count known many = absurd line
+
+-- ---- the column
+
+-- all that the processes of a column read can be read
+column_known : (column : Column) → EachRead (readable (column_net column)) column.input (links_below column)
+column_known column = each_read (readable (column_net column)) column.input column.output column.channels (inl refl) (λ name among. inr (channel_known name column.channels among))
 
 -- what comes in
 input-column : (column : Column) (inputs : List Input) → input_streams (column_net column).inputs inputs column.input ≡ values_at inputs column.position
 input-column column inputs = with_stream-same (λ name. []) column.input (values_at inputs column.position)
 
--- what the process sends
-sent-column : (column : Column) (inputs : List Input) → (run_of (column_net column) (input_streams (column_net column).inputs inputs) (process_of column)).doing.sent column.output ≡ values_at inputs column.position
-sent-column column inputs =
-    let streams = input_streams (column_net column).inputs inputs in
-    let limit = step_limit-column column streams in
-    let count = ap length (input-column column inputs) in
-    sends_all column.input column.output (values_at inputs column.position) (step_limit (column_net column) streams (process_of column) + 1) (beginning streams) (omega arith) (input-column column inputs)
-
--- the output's stream is what comes in
-output-column : (column : Column) (inputs : List Input) → IsColumn column → kahn_streams (column_net column) inputs column.output ≡ values_at inputs column.position
+-- the output's stream is what the stages make of what comes in
+output-column : (column : Column) (inputs : List Input) (is_column : IsColumn column) → kahn_streams (column_net column) inputs column.output ≡ made_by (column_stages column is_column) (values_at inputs column.position)
 output-column column inputs is_column =
-    let streams = input_streams (column_net column).inputs inputs in
-    let sent = (run_of (column_net column) streams (process_of column)).doing.sent column.output in
-    ap (λ (front : List ℤ). front ++ sent) (with_stream-other (λ name. []) column.input column.output (values_at inputs column.position) (λ e. is_column.links_differ (sym e))) ∙ sent-column column inputs
+    let net = column_net column in
+    let stages = line_stages column.position column.input (links_below column) column.processes is_column.in_line in
+    let differ = differ_from (column.input ∷ links_below column) is_column.links_differ in
+    let streams : Streams = input_streams net.inputs inputs in
+    let makes = line_makes net column.position column.input (links_below column) column.processes is_column.in_line streams (column_known column) differ.1
+    (λ name among. with_stream-other (λ other. []) column.input name (values_at inputs column.position) (differ.0 name among)) in
+    ap (kahn_streams net inputs) (sym (last_name-output column.input column.output column.channels)) ∙ makes ∙ ap (made_by stages) (input-column column inputs)
+    ∙ sym (made_by-append stages (replicate (3 - length column.processes) pass_stage) (values_at inputs column.position) ∙ made_by-passes (3 - length column.processes) (made_by stages (values_at inputs column.position)))
 
--- the stream of the column's output is its input
-pub kahn_at-column : (column : Column) (inputs : List Input) → IsColumn column → kahn_at (column_net column) inputs column.position ≡ values_at inputs column.position
+-- the stream at the column's position is what the stages make of its input
+pub kahn_at-column : (column : Column) (inputs : List Input) (is_column : IsColumn column) → kahn_at (column_net column) inputs column.position ≡ made_by (column_stages column is_column) (values_at inputs column.position)
 kahn_at-column column inputs is_column = rw (eq-eqb column.position column.position refl) (output-column column inputs is_column)
 
 -- there is no other output
 pub kahn_at-other : (column : Column) (inputs : List Input) (position : ℕ) → position ≢ column.position → kahn_at (column_net column) inputs position ≡ []
 kahn_at-other column inputs position apart = rw (ne_eqb column.position position (λ e. apart (sym e))) refl
 
--- the bound leaves room
-pub bound-column : (column : Column) (inputs : List Input) → 128 * 12 * ((1 + length (values_at inputs column.position)) * 4 + 12) ≤ bound (column_net column) inputs
-bound-column column inputs =
-    let streams = input_streams (column_net column).inputs inputs in
-    let sent = (run_of (column_net column) streams (process_of column)).doing.sent column.input in
-    let limit = step_limit-column column (kahn_streams (column_net column) inputs) in
-    let first : all_steps (column_net column) inputs ≡ (1 + length (kahn_streams (column_net column) inputs column.input)) * 4 = omega (arith, limit) in
-    let long : length (kahn_streams (column_net column) inputs column.input) ≡ length (streams column.input) + length sent = length-append (streams column.input) sent in
-    let came = ap length (input-column column inputs) in
-    omega arith
+-- most steps of the processes and of the tiles below them, by those that the processes may take
+room_for_all : (most line passes rows count all : ℕ) → most ≡ line + passes → passes ≡ (count + count) * rows → rows ≤ 3 → count + count ≤ line → line ≤ all → 12 * most ≤ 128 * 12 * (all + 12)
+room_for_all most line passes rows count all is_most is_passes few some within = omega (arith, mul-le-mul_left (count + count) few)
+
+-- the bound leaves room for all steps on twelve tiles
+pub bound-column : (column : Column) (inputs : List Input) (is_column : IsColumn column) → 12 * most_steps (column_stages column is_column) (length (values_at inputs column.position)) ≤ bound (column_net column) inputs
+bound-column column inputs is_column =
+    let net = column_net column in
+    let count = length (values_at inputs column.position) in
+    let stages = line_stages column.position column.input (links_below column) column.processes is_column.in_line in
+    let rows = 3 - length column.processes in
+    let came : count ≤ length (input_streams net.inputs inputs column.input) = omega (arith, ap length (input-column column inputs)) in
+    let within = line_bound net column.position column.input (links_below column) column.processes is_column.in_line (input_streams net.inputs inputs) count (column_known column) came in
+    let some : 0 < length stages = omega (arith, length-line_stages column.position column.input (links_below column) column.processes is_column.in_line, is_column.some) in
+    room_for_all (most_steps (column_stages column is_column) count) (most_steps stages count) (most_steps (replicate rows pass_stage) count) rows count (all_steps net inputs)
+    (most_steps-append stages (replicate rows pass_stage) count) (most_steps-passes rows count) (omega arith) (most_steps-some stages count some) within

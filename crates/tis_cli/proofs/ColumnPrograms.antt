@@ -1,9 +1,9 @@
 -- The programs of a column are stages that stand one below the other.
-use Rattle.std.proofs.Common.{◌≡◌, ◌≢◌, ℕ, ◌+◌, ◌<◌, ◌≤◌, Bool, true, false, List, [], ◌∷◌, length, map, replicate, Some, None, refl, sym, ap, subst, ◌∙◌, inl, inr, arith}
-use Rattle.std.specs.Prelude.{◌⊎◌, ◌==◌, unwrap_or, if◌then◌else◌}
+use Rattle.std.proofs.Common.{◌≡◌, ◌≢◌, ℕ, zero, suc, ◌+◌, ◌-◌, ◌*◌, ◌<◌, ◌≤◌, Bool, true, false, List, [], ◌∷◌, length, map, replicate, Option, Some, refl, sym, ap, subst, ◌∙◌, inl, inr, arith}
+use Rattle.std.specs.Prelude.{◌⊎◌, unwrap_or, if◌then◌else◌}
 use Rattle.std.specs.List.{range_with_len, list_any}
-use Rattle.std.proofs.lemmas.Bool.{cases_lt, cases_eq, eq-eqb, ne_eqb, lt-ltb}
-use Rattle.std.proofs.lemmas.List.{get_or_past, get_or-replicate}
+use Rattle.std.proofs.lemmas.Bool.{cases_lt, cases_eq, lt-ltb}
+use Rattle.std.proofs.lemmas.List.{get_or_past, get_or-replicate, length-map}
 use Rattle.std.proofs.lemmas.List.FromFn.{get_or-map-range_with_len}
 use Rattle.std.proofs.lemmas.Option.{slice_get-get_or}
 use Rattle.tis_base.specs.Tiles.{IsCompute, neighbour_of}
@@ -15,11 +15,73 @@ use Rattle.tis_asm.specs.Listing.{IsListing}
 use Rattle.tis_grid.specs.Puzzle.{Puzzle, Input, Output, IsPuzzle}
 use Rattle.tis_grid.specs.State.{Grid, IsGrid}
 use Rattle.tis_grid.specs.Events.{program_of}
-use Rattle.tis_cli.specs.Column.{Column, IsColumn, plain_board, column_net}
-use Rattle.tis_cli.specs.Compiled.{pass_code, passes, program_for, compiled}
+use Rattle.tis_cli.specs.Net.{Name, Process}
+use Rattle.tis_cli.specs.Column.{StandInLine, Column, links_below, IsColumn, plain_board, column_net}
+use Rattle.tis_cli.specs.Compiled.{statement_code, code_of, pass_code, passes, stands_at, process_code_at, program_for, compiled}
 use Rattle.tis_cli.specs.Carries.{grid_with}
-use Rattle.tis_cli.specs.Stage.{StandsOn, IsAmong, IsStack}
+use Rattle.tis_cli.specs.Stage.{Stage, StandsOn, StandDown, IsAmong, IsStack}
+use Rattle.tis_cli.proofs.Bodies.{body_short}
 use Rattle.tis_cli.proofs.PassStage.{pass_stage}
+use Rattle.tis_cli.proofs.ColumnStages.{line_stages, length-line_stages, column_stages, IsApart, no_code, HavePrograms, have_programs-append, line_programs, passed, not_passed}
+
+-- ---- what the compiler puts on each tile
+
+-- what stands on a tile without a process
+abbrev link_code : Column → ℕ → List Line
+link_code column tile = if list_any (λ port. passes port tile) (column_net column).outputs then pass_code else []
+
+-- a tile that the output passes
+program-pass : (column : Column) (row tile : ℕ) → IsColumn column → length column.processes ≤ row → row < 3 → tile ≡ column.position + 4 * row → program_for (column_net column) tile ≡ pass_code
+program-pass column row tile is_column lower inside is =
+    let none = no_code column.position column.input (links_below column) column.processes is_column.in_line tile (λ other few e. omega arith) in
+    let some = passed column.position (length column.processes) row tile is_column.some lower inside is in
+    rw (none, some) refl
+
+-- a tile of another column
+program-elsewhere : (column : Column) (tile : ℕ) → IsColumn column → IsApart column.position 3 tile → program_for (column_net column) tile ≡ []
+program-elsewhere column tile is_column apart =
+    let none = no_code column.position column.input (links_below column) column.processes is_column.in_line tile (λ row few. apart row (omega (arith, is_column.few))) in
+    let no_link = not_passed column.position (length column.processes) tile apart in
+    rw (none, no_link) refl
+
+-- the tiles below the processes
+pass_programs : (column : Column) → IsColumn column → (rows row : ℕ) → length column.processes ≤ row → row + rows ≡ 3 → HavePrograms (program_for (column_net column)) (column.position + 4 * row) (replicate rows pass_stage)
+pass_programs column is_column zero row lower all = tt
+pass_programs column is_column (suc rows) row lower all = (
+  program-pass column row (column.position + 4 * row) is_column lower (omega arith) refl,
+  subst (λ (tile : ℕ). HavePrograms (program_for (column_net column)) tile (replicate rows pass_stage)) (omega arith) (pass_programs column is_column rows (row + 1) (omega arith) (omega arith)),
+)
+
+-- the code of the stages of a column stands on its tiles
+pub column_programs : (column : Column) (is_column : IsColumn column) → HavePrograms (program_for (column_net column)) column.position (column_stages column is_column)
+column_programs column is_column =
+    let stages = line_stages column.position column.input (links_below column) column.processes is_column.in_line in
+    let count = length column.processes in
+    let line = line_programs column.processes (link_code column) column.position column.input (links_below column) column.processes is_column.in_line (λ at lower. refl) in
+    let below = pass_programs column is_column (3 - count) count (omega arith) (omega (arith, is_column.few)) in
+    have_programs-append (program_for (column_net column)) column.position stages (replicate (3 - count) pass_stage) line
+    (subst (λ (rows : ℕ). HavePrograms (program_for (column_net column)) (column.position + 4 * rows) (replicate (3 - count) pass_stage)) (sym (length-line_stages column.position column.input (links_below column) column.processes is_column.in_line)) below)
+
+-- a choice between code and what stands there otherwise is short, where both are
+choice_short : (stands : Bool) (code other : List Line) (lower : Option (List Line)) → length code ≤ 15 → length (unwrap_or lower other) ≤ 15 → length (unwrap_or (if stands then Some code else lower) other) ≤ 15
+choice_short true code other lower here below = here
+choice_short false code other lower here below = below
+
+-- the code of each process is short
+code_short : (tile : ℕ) (read : Name) (names : List Name) (processes : List Process) → StandInLine tile read names processes → (other : List Line) → length other ≤ 15 → (at : ℕ) → length (unwrap_or (process_code_at processes at) other) ≤ 15
+code_short tile read [] [] line other short at = short
+code_short tile read (written ∷ names) (process ∷ processes) line other short at =
+    let here : length (code_of process.body) ≤ 15 = omega (arith, length-map process.body statement_code, body_short read written process.body line.0.body) in
+    choice_short (stands_at process.at at) (code_of process.body) other (process_code_at processes at) here (code_short (tile + 4) written names processes line.1 other short at)
+code_short tile read [] (process ∷ processes) line other short at = absurd line
+code_short tile read (written ∷ names) [] line other short at = absurd line
+
+-- so is what stands on other tiles
+link_short : (is_passed : Bool) → length (if is_passed then pass_code else []) ≤ 15
+link_short true = omega arith
+link_short false = omega arith
+
+-- ---- the grid
 
 -- a puzzle on twelve compute tiles
 abbrev pub plain_puzzle : List Input → List Output → Puzzle
@@ -37,22 +99,6 @@ is_compute-plain tile inside = slice_get-get_or (replicate 12 Compute) tile Comp
 next-plain : (tile : ℕ) → tile < 8 → neighbour_of plain_board.shape tile Down ≡ Some (tile + 4)
 next-plain tile above = let inside : tile + 4 < 12 = omega arith in rw (lt-ltb (tile + 4) 12 inside) refl
 
--- the program of the process's tile
-program-first : (column : Column) → program_for (column_net column) column.position ≡ pass_code
-program-first column = rw (eq-eqb column.position column.position refl) refl
-
--- the program of the first tile that the output passes
-program-second : (column : Column) → program_for (column_net column) (column.position + 4) ≡ pass_code
-program-second column = rw (ne_eqb column.position (column.position + 4) (λ e. omega arith), eq-eqb (column.position + 4) (column.position + 4) refl) refl
-
--- the program of the second tile that the output passes
-program-third : (column : Column) → program_for (column_net column) (column.position + 8) ≡ pass_code
-program-third column = rw (ne_eqb column.position (column.position + 8) (λ e. omega arith), ne_eqb (column.position + 4) (column.position + 8) (λ e. omega arith), eq-eqb (column.position + 8) (column.position + 8) refl) refl
-
--- the other tiles have none
-program-elsewhere : (column : Column) (tile : ℕ) → column.position ≢ tile → column.position + 4 ≢ tile → column.position + 8 ≢ tile → program_for (column_net column) tile ≡ []
-program-elsewhere column tile not_first not_second not_third = rw (ne_eqb column.position tile not_first, ne_eqb (column.position + 4) tile not_second, ne_eqb (column.position + 8) tile not_third) refl
-
 -- the program of a tile of the grid
 program-inside : (column : Column) (inputs : List Input) (outputs : List Output) (tile : ℕ) → tile < 12 → program_of (column_grid column inputs outputs) tile ≡ program_for (column_net column) tile
 program-inside column inputs outputs tile inside = get_or-map-range_with_len (program_for (column_net column)) 0 12 tile tile [] inside (omega arith)
@@ -61,70 +107,70 @@ program-inside column inputs outputs tile inside = get_or-map-range_with_len (pr
 program-outside : (column : Column) (inputs : List Input) (outputs : List Output) (tile : ℕ) → 12 ≤ tile → program_of (column_grid column inputs outputs) tile ≡ []
 program-outside column inputs outputs tile outside = get_or_past (map (program_for (column_net column)) (range_with_len 0 12)) tile [] outside
 
--- the program that passes values on, on a tile of the grid
-stands_pass : (column : Column) (inputs : List Input) (outputs : List Output) (tile : ℕ) → tile < 12 → program_for (column_net column) tile ≡ pass_code → StandsOn (column_grid column inputs outputs) tile pass_stage
-stands_pass column inputs outputs tile inside passes = record { compute = is_compute-plain tile inside; program = program-inside column inputs outputs tile inside ∙ passes }
+-- the program of a stage, on a tile of the grid
+stands_on : (column : Column) (inputs : List Input) (outputs : List Output) (tile : ℕ) (stage : Stage) → tile < 12 → program_for (column_net column) tile ≡ stage.program → StandsOn (column_grid column inputs outputs) tile stage
+stands_on column inputs outputs tile stage inside is = record { compute = is_compute-plain tile inside; program = program-inside column inputs outputs tile inside ∙ is }
 
--- a tile has a stage or no instructions
-stage_or_none : (column : Column) (inputs : List Input) (outputs : List Output) (tile : ℕ) → IsAmong (column_grid column inputs outputs) tile column.position (pass_stage ∷ pass_stage ∷ pass_stage ∷ []) ⊎ (program_of (column_grid column inputs outputs) tile ≡ [])
-stage_or_none column inputs outputs tile =
-    elim (cases_lt tile 12) [
-      | inr outside ↦ inr (program-outside column inputs outputs tile outside)
-      | inl inside ↦ elim (cases_eq column.position tile) [
-        | inl first ↦ inl (inl (sym first))
-        | inr not_first ↦ elim (cases_eq (column.position + 4) tile) [
-          | inl second ↦ inl (inr (inl (sym second)))
-          | inr not_second ↦ elim (cases_eq (column.position + 8) tile) [
-            | inl third ↦ inl (inr (inr (inl (omega arith))))
-            | inr not_third ↦ inr (program-inside column inputs outputs tile inside ∙ program-elsewhere column tile not_first not_second not_third)
-          ]
-        ]
+-- stages whose code stands tile below tile, down to the bottom row, stand down the grid
+stand_down : (column : Column) (inputs : List Input) (outputs : List Output) (tile : ℕ) (stage : Stage) (stages : List Stage) → HavePrograms (program_for (column_net column)) tile (stage ∷ stages) → column.position < 4 → tile + 4 * length stages ≡ column.position + 8 →
+    StandDown (column_grid column inputs outputs) column.position tile stage stages
+stand_down column inputs outputs tile stage [] programs inside bottom = (stands_on column inputs outputs tile stage (omega arith) programs.0, omega arith)
+stand_down column inputs outputs tile stage (next ∷ stages) programs inside bottom = (
+  stands_on column inputs outputs tile stage (omega arith) programs.0,
+  next-plain tile (omega arith),
+  stand_down column inputs outputs (tile + 4) next stages programs.1 inside (omega arith),
+)
+
+-- a tile is one of those of the stages, or none of them
+among_or_apart : (column : Column) (inputs : List Input) (outputs : List Output) (tile first : ℕ) (stages : List Stage) → IsAmong (column_grid column inputs outputs) tile first stages ⊎ IsApart first (length stages) tile
+among_or_apart column inputs outputs tile first [] = inr (λ row few e. omega arith)
+among_or_apart column inputs outputs tile first (stage ∷ stages) =
+    elim (cases_eq tile first) [
+      | inl here ↦ inl (inl here)
+      | inr elsewhere ↦ elim (among_or_apart column inputs outputs tile (first + 4) stages) [
+        | inl lower ↦ inl (inr lower)
+        | inr apart ↦ inr (apart_here first (length stages) tile elsewhere apart)
       ]
     ]
+  where
+    apart_here : (first rows tile : ℕ) → tile ≢ first → IsApart (first + 4) rows tile → IsApart first (suc rows) tile
+    apart_here first rows tile elsewhere apart zero few e = elsewhere (omega arith)
+    apart_here first rows tile elsewhere apart (suc row) few e = apart row (omega arith) (omega arith)
 
--- the three tiles of the column are stages, and no other tile has instructions
-pub column_stack : (column : Column) (inputs : List Input) (outputs : List Output) → IsColumn column → IsStack (column_grid column inputs outputs) column.position pass_stage (pass_stage ∷ pass_stage ∷ [])
-column_stack column inputs outputs is_column =
-    let lies : column.position < 4 = is_column.position in
-    let third : program_for (column_net column) (column.position + 4 + 4) ≡ pass_code = subst (λ (t : ℕ). program_for (column_net column) t ≡ pass_code) (omega arith) (program-third column) in
+-- the stages stand down the column, and no other tile has instructions
+pub column_stack : (column : Column) (inputs : List Input) (outputs : List Output) → IsColumn column → (stage : Stage) (stages : List Stage) → HavePrograms (program_for (column_net column)) column.position (stage ∷ stages) → length stages ≡ 2 → IsStack (column_grid column inputs outputs) column.position stage stages
+column_stack column inputs outputs is_column stage stages programs all =
     record {
       inside = is_column.position;
-      stand = (
-        stands_pass column inputs outputs column.position (omega arith) (program-first column),
-        next-plain column.position (omega arith),
-        (
-          stands_pass column inputs outputs (column.position + 4) (omega arith) (program-second column),
-          next-plain (column.position + 4) (omega arith),
-          (stands_pass column inputs outputs (column.position + 4 + 4) (omega arith) third, omega arith),
-        ),
-      );
-      elsewhere = stage_or_none column inputs outputs;
-      other_bottoms = λ other inside apart. program-inside column inputs outputs (other + 8) (omega arith) ∙ program-elsewhere column (other + 8) (λ e. omega arith) (λ e. omega arith) (λ e. apart (omega arith));
+      stand = stand_down column inputs outputs column.position stage stages programs is_column.position (omega arith);
+      elsewhere = λ tile. elim (cases_lt tile 12) [
+        | inr outside ↦ inr (program-outside column inputs outputs tile outside)
+        | inl inside ↦ elim (among_or_apart column inputs outputs tile column.position (stage ∷ stages)) [
+          | inl among ↦ inl among
+          | inr apart ↦ inr (program-inside column inputs outputs tile inside ∙ program-elsewhere column tile is_column (λ row few. apart row (omega arith)))
+        ]
+      ];
+      other_bottoms = λ other inside apart. program-inside column inputs outputs (other + 8) (omega arith) ∙ program-elsewhere column (other + 8) is_column (λ row few e. apart (omega (arith, is_column.position)));
     }
 
--- whichever is chosen is short
-short_choice : (is_process is_passed : Bool) → length (unwrap_or (if is_process then Some pass_code else None) (if is_passed then pass_code else [])) ≤ 15
-short_choice true is_passed = omega arith
-short_choice false true = omega arith
-short_choice false false = omega arith
-
 -- each program of the grid is short
-program-short : (column : Column) (inputs : List Input) (outputs : List Output) (tile : ℕ) → length (program_of (column_grid column inputs outputs) tile) ≤ 15
-program-short column inputs outputs tile =
+program-short : (column : Column) (inputs : List Input) (outputs : List Output) (tile : ℕ) → IsColumn column → length (program_of (column_grid column inputs outputs) tile) ≤ 15
+program-short column inputs outputs tile is_column =
     elim (cases_lt tile 12) [
-      | inl inside ↦ subst (λ (p : List Line). length p ≤ 15) (sym (program-inside column inputs outputs tile inside)) (short_choice (column.position == tile) (list_any (λ port. passes port tile) (column_net column).outputs))
+      | inl inside ↦ subst (λ (p : List Line). length p ≤ 15) (sym (program-inside column inputs outputs tile inside))
+          (code_short column.position column.input (links_below column) column.processes is_column.in_line (link_code column tile) (link_short (list_any (λ port. passes port tile) (column_net column).outputs)) tile)
       | inr outside ↦ subst (λ (p : List Line). length p ≤ 15) (sym (program-outside column inputs outputs tile outside)) (omega arith)
     ]
 
 -- the programs of a column are a listing
-pub column_is_listing : (column : Column) → IsListing (compiled (column_net column))
-column_is_listing column =
+pub column_is_listing : (column : Column) → IsColumn column → IsListing (compiled (column_net column))
+column_is_listing column is_column =
     record {
       one_each = refl;
-      short = program-short column [] [];
+      short = λ tile. program-short column [] [] tile is_column;
       elsewhere = λ tile apart. elim (cases_lt tile 12) [ inl inside ↦ absurd (apart (is_compute-plain tile inside)) | inr outside ↦ program-outside column [] [] tile outside ];
     }
 
 -- the programs are for the tiles
-pub column_is_grid : (column : Column) (inputs : List Input) (outputs : List Output) → IsPuzzle (plain_puzzle inputs outputs) → IsGrid (column_grid column inputs outputs)
-column_is_grid column inputs outputs is_puzzle = record { puzzle = is_puzzle; programs = column_is_listing column }
+pub column_is_grid : (column : Column) (inputs : List Input) (outputs : List Output) → IsColumn column → IsPuzzle (plain_puzzle inputs outputs) → IsGrid (column_grid column inputs outputs)
+column_is_grid column inputs outputs is_column is_puzzle = record { puzzle = is_puzzle; programs = column_is_listing column is_column }

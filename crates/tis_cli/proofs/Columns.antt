@@ -1,5 +1,5 @@
 -- The programs of a column carry its network.
-use Rattle.std.proofs.Common.{◌≡◌, ℕ, ℤ, List, [], ◌∷◌, None, sym, subst, ◌∙◌, inl, inr, arith}
+use Rattle.std.proofs.Common.{◌≡◌, ℕ, ℤ, List, [], ◌∷◌, length, Some, sym, subst, ◌∙◌, inl, inr, le_trans, arith}
 use Rattle.std.proofs.lemmas.Bool.{cases_eq}
 use Rattle.tis_base.specs.Prefix.{IsPrefixOf}
 use Rattle.tis_base.specs.Tiles.{Board}
@@ -9,35 +9,41 @@ use Rattle.tis_grid.specs.Puzzle.{Input, Output, IsPuzzle}
 use Rattle.tis_grid.specs.State.{outs, start}
 use Rattle.tis_grid.specs.Orders.{after, IsLegal}
 use Rattle.tis_cli.specs.Kahn.{kahn_at}
-use Rattle.tis_cli.specs.Column.{Column, IsColumn, column_net, NetOf}
+use Rattle.tis_cli.specs.Column.{Column, IsColumn, tiles_below, column_net, NetOf}
 use Rattle.tis_cli.specs.Net.{Net}
-use Rattle.tis_cli.specs.Compiled.{compiled}
+use Rattle.tis_cli.specs.Compiled.{program_for, compiled}
 use Rattle.tis_cli.specs.Carries.{FitsNet, grid_with, FollowsNet, Carries}
 use Rattle.tis_cli.specs.Stage.{Stage, FollowsStack}
 use Rattle.tis_cli.proofs.GridLaws.{GridLaws, every_grid}
-use Rattle.tis_cli.proofs.PassStage.{pass_stage}
 use Rattle.tis_cli.proofs.Stack.{follows_stack}
+use Rattle.tis_cli.proofs.ColumnStages.{column_stages, length-column_stages, HavePrograms}
 use Rattle.tis_cli.proofs.ColumnKahn.{kahn_at-column, kahn_at-other, bound-column}
-use Rattle.tis_cli.proofs.ColumnPrograms.{plain_puzzle, column_grid, column_stack, column_is_grid}
+use Rattle.tis_cli.proofs.ColumnPrograms.{column_programs, plain_puzzle, column_grid, column_stack, column_is_grid}
 
--- the three stages of a column
-abbrev three_passes : List Stage
-three_passes = pass_stage ∷ pass_stage ∷ pass_stage ∷ []
+-- an order on the grid of a column follows its stages
+follows_stages : GridLaws → (column : Column) → IsColumn column → (inputs : List Input) (outputs : List Output) → IsPuzzle (plain_puzzle inputs outputs) →
+    (events : List Event) → IsLegal (column_grid column inputs outputs) (start (column_grid column inputs outputs)) events →
+    (stages : List Stage) → length stages ≡ 3 → HavePrograms (program_for (column_net column)) column.position stages → FollowsStack (column_grid column inputs outputs) column.position stages events
+follows_stages laws column is_column inputs outputs is_puzzle events legal [] all programs = absurd (omega arith)
+follows_stages laws column is_column inputs outputs is_puzzle events legal (stage ∷ stages) all programs =
+    follows_stack laws (column_grid column inputs outputs) events (column_is_grid column inputs outputs is_column is_puzzle) legal column.position stage stages
+    (column_stack column inputs outputs is_column stage stages programs (omega arith))
 
 -- what follows the stages follows the network
-from_stack : (column : Column) (inputs : List Input) (outputs : List Output) (events : List Event) → IsColumn column → FitsNet (plain_puzzle inputs outputs) (column_net column) →
-    FollowsStack (column_grid column inputs outputs) column.position three_passes events → FollowsNet (column_grid column inputs outputs) (column_net column) events
+from_stack : (column : Column) (inputs : List Input) (outputs : List Output) (events : List Event) (is_column : IsColumn column) → FitsNet (plain_puzzle inputs outputs) (column_net column) →
+    FollowsStack (column_grid column inputs outputs) column.position (column_stages column is_column) events → FollowsNet (column_grid column inputs outputs) (column_net column) events
 from_stack column inputs outputs events is_column fits follows =
+    let passed_tiles = tiles_below column.position (length column.processes) in
     record {
       prefixes = λ position. elim (cases_eq position column.position) [
         | inl here ↦ subst (λ (p : ℕ). IsPrefixOf (outs (after (column_grid column inputs outputs) (start (column_grid column inputs outputs)) events) p) (kahn_at (column_net column) inputs p)) (sym here)
             (subst (λ (stream : List ℤ). IsPrefixOf (outs (after (column_grid column inputs outputs) (start (column_grid column inputs outputs)) events) column.position) stream) (sym (kahn_at-column column inputs is_column)) follows.front)
         | inr elsewhere ↦ prefix_refl _ _ (follows.others position elsewhere ∙ sym (kahn_at-other column inputs position elsewhere))
       ];
-      bounded = omega (arith, follows.bounded, bound-column column inputs);
+      bounded = le_trans follows.bounded (bound-column column inputs is_column);
       whole = λ rest position. elim (cases_eq position column.position) [
         | inl here ↦ subst (λ (p : ℕ). outs (after (column_grid column inputs outputs) (start (column_grid column inputs outputs)) events) p ≡ kahn_at (column_net column) inputs p) (sym here)
-            (follows.whole (fits.outputs 0 (record { name = column.output; position = column.position; via = None }) (omega arith)) rest ∙ sym (kahn_at-column column inputs is_column))
+            (follows.whole (fits.outputs 0 (record { name = column.output; position = column.position; via = Some passed_tiles }) (omega arith)) rest ∙ sym (kahn_at-column column inputs is_column))
         | inr elsewhere ↦ follows.others position elsewhere ∙ sym (kahn_at-other column inputs position elsewhere)
       ];
     }
@@ -47,7 +53,7 @@ carries_plain : GridLaws → (column : Column) → IsColumn column → (inputs :
     (events : List Event) → IsLegal (column_grid column inputs outputs) (start (column_grid column inputs outputs)) events → FollowsNet (column_grid column inputs outputs) (column_net column) events
 carries_plain laws column is_column inputs outputs is_puzzle fits events legal =
     from_stack column inputs outputs events is_column fits
-    (follows_stack laws (column_grid column inputs outputs) events (column_is_grid column inputs outputs is_puzzle) legal column.position pass_stage (pass_stage ∷ pass_stage ∷ []) (column_stack column inputs outputs is_column))
+    (follows_stages laws column is_column inputs outputs is_puzzle events legal (column_stages column is_column) (length-column_stages column is_column) (column_programs column is_column))
 
 -- the programs of a column carry its network, by the laws of every grid
 pub column_carries : GridLaws → (column : Column) → IsColumn column → Carries (compiled (column_net column)) (column_net column)

@@ -8,6 +8,12 @@ pub mod Statuses
 pub mod GridLaws
 pub mod PassStage
 pub mod Stack
+pub mod Bodies
+pub mod Rounds
+pub mod Instructions
+pub mod Places
+pub mod BodyStage
+pub mod ColumnStages
 pub mod ColumnKahn
 pub mod ColumnPrograms
 pub mod Columns

@@ -5,26 +5,33 @@ use Rattle.tis_base.specs.declared.tiles.Dir.TheVariants.{Up, Down}
 use Rattle.tis_asm.specs.declared.instr.Source.TheVariants as from
 use Rattle.tis_asm.specs.declared.instr.Dest.TheVariants as to
 use Rattle.tis_asm.specs.declared.instr.Instr.{Instr}
-use Rattle.tis_asm.specs.declared.instr.Instr.TheVariants.{Mov}
+use Rattle.tis_asm.specs.declared.instr.Instr.TheVariants as instr
 use Rattle.tis_asm.specs.declared.program.Line.{Line}
 use Rattle.tis_asm.specs.Listing.{Listing}
-use Rattle.tis_cli.specs.Net.{Statement, Move, PortLine, Process, Net}
+use Rattle.tis_cli.specs.Net.{Var, X, Statement, Get, Put, PutNumber, Move, Set, Add, Sub, Neg, Double, PortLine, Process, Net}
 
 -- an instruction without a mark
 abbrev pub plain : Instr → Line
-plain instr = record { instr = instr; mark = false }
+plain instruction = record { instr = instruction; mark = false }
 
--- the code of a statement, in a column: it reads from above and writes downwards
-abbrev pub statement_code : Statement → List Line
-statement_code (Move read written) = plain (Mov (from.Port Up) (to.Port Down)) ∷ []
+-- the code of a statement, in a column: x is ACC, reads come from above and writes go downwards
+abbrev pub statement_code : Statement → Line
+statement_code (Get read X) = plain (instr.Mov (from.Port Up) to.Acc)
+statement_code (Put written X) = plain (instr.Mov from.Acc (to.Port Down))
+statement_code (PutNumber written number) = plain (instr.Mov (from.Number number) (to.Port Down))
+statement_code (Move read written) = plain (instr.Mov (from.Port Up) (to.Port Down))
+statement_code (Set X number) = plain (instr.Mov (from.Number number) to.Acc)
+statement_code (Add X number) = plain (instr.Add (from.Number number))
+statement_code (Sub X number) = plain (instr.Sub (from.Number number))
+statement_code (Neg X) = plain instr.Neg
+statement_code (Double X) = plain (instr.Add from.Acc)
 
 abbrev pub code_of : List Statement → List Line
-code_of [] = []
-code_of (statement ∷ body) = statement_code statement ++ code_of body
+code_of body = map statement_code body
 
 -- the program of a tile that a link passes, in a column
 abbrev pub pass_code : List Line
-pass_code = plain (Mov (from.Port Up) (to.Port Down)) ∷ []
+pass_code = plain (instr.Mov (from.Port Up) (to.Port Down)) ∷ []
 
 abbrev pub stands_at : Option ℕ → ℕ → Bool
 stands_at None tile = false

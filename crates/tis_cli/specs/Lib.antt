@@ -11,3 +11,4 @@ pub mod Carries
 pub mod Outcomes
 pub mod Spoken
 pub mod Stage
+pub mod Behaves

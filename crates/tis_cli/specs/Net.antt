@@ -1,5 +1,5 @@
 -- Networks of processes, joined by first-in first-out channels (Kahn 1974), with where they are to stand.
-use Rattle.std.specs.Prelude.{ℕ, Bool, false, ◌&&◌, ◌||◌, List, [], ◌∷◌, length, Option, nat_le, IsTrue, ◌==◌}
+use Rattle.std.specs.Prelude.{ℕ, ℤ, Bool, false, ◌&&◌, ◌||◌, List, [], ◌∷◌, length, Option, nat_le, IsTrue, ◌==◌}
 use Rattle.std.specs.Char.{is_ascii_alphabetic, is_ascii_alphanumeric}
 use Rattle.std.specs.List.{list_all}
 use Rattle.tis_base.specs.Tiles.{Board}
@@ -23,10 +23,27 @@ is_name name = (begins_with_letter name && list_all is_name_byte name) && nat_le
 abbrev pub IsName : Name → Type 0
 IsName name = IsTrue (is_name name)
 
+-- the variables of a process; so far there is one
+pub data Var : Type 0 where
+  X : Var
+
 -- what a process does next
 pub data Statement : Type 0 where
+  -- reads a value into a variable
+  Get : (read : Name) → (var : Var) → Statement
+  -- sends the value of a variable
+  Put : (written : Name) → (var : Var) → Statement
+  -- sends a number
+  PutNumber : (written : Name) → (number : ℤ) → Statement
   -- reads a value from one name and sends it on another
   Move : (read : Name) → (written : Name) → Statement
+  -- a number becomes the value of a variable, or is added to it, or subtracted from it
+  Set : (var : Var) → (number : ℤ) → Statement
+  Add : (var : Var) → (number : ℤ) → Statement
+  Sub : (var : Var) → (number : ℤ) → Statement
+  -- a variable gets the other sign, or is added to itself
+  Neg : (var : Var) → Statement
+  Double : (var : Var) → Statement
 
 -- an input or an output at a position, and the tiles that its link passes, where it is pinned
 pub record PortLine : Type 0 where

@@ -1,11 +1,12 @@
 -- The canonical text of a network: lines of words with one blank between, each line ended by LF.
 use Rattle.std.specs.Prelude.{ℕ, List, [], ◌∷◌, ◌++◌, map, flat_map, take, drop, Option, Some, None, codes, decimal, zero, suc}
+use Rattle.std.specs.Fmt.{signed_decimal}
 use Rattle.std.specs.List.{join_with_byte}
 use Rattle.tis_base.specs.Lines.{text_of_lines}
 use Rattle.tis_base.specs.Tiles.{Board}
 use Rattle.tis_base.specs.declared.tiles.TileKind.{TileKind}
 use Rattle.tis_base.specs.declared.tiles.TileKind.TheVariants.{Compute, Memory, Damaged}
-use Rattle.tis_cli.specs.Net.{Statement, Move, PortLine, ChannelLine, Process, Net}
+use Rattle.tis_cli.specs.Net.{Var, X, Statement, Get, Put, PutNumber, Move, Set, Add, Sub, Neg, Double, PortLine, ChannelLine, Process, Net}
 
 -- a line as its words
 abbrev pub Words : Type 0
@@ -38,11 +39,22 @@ port_line side port = side ∷ port.name ∷ codes "at" ∷ decimal port.positio
 abbrev pub channel_line : ChannelLine → Words
 channel_line channel = codes "channel" ∷ channel.name ∷ via_words channel.via
 
-abbrev pub statement_lines : Statement → List Words
-statement_lines (Move read written) = (codes "move" ∷ read ∷ written ∷ []) ∷ []
+abbrev pub var_word : Var → List ℕ
+var_word X = codes "x"
+
+abbrev pub statement_line : Statement → Words
+statement_line (Get read var) = codes "get" ∷ read ∷ var_word var ∷ []
+statement_line (Put written var) = codes "put" ∷ written ∷ var_word var ∷ []
+statement_line (PutNumber written number) = codes "put" ∷ written ∷ signed_decimal number ∷ []
+statement_line (Move read written) = codes "move" ∷ read ∷ written ∷ []
+statement_line (Set var number) = codes "set" ∷ var_word var ∷ signed_decimal number ∷ []
+statement_line (Add var number) = codes "add" ∷ var_word var ∷ signed_decimal number ∷ []
+statement_line (Sub var number) = codes "sub" ∷ var_word var ∷ signed_decimal number ∷ []
+statement_line (Neg var) = codes "neg" ∷ var_word var ∷ []
+statement_line (Double var) = codes "double" ∷ var_word var ∷ []
 
 abbrev pub process_lines : Process → List Words
-process_lines process = ((codes "process" ∷ process.name ∷ at_words process.at) ∷ flat_map statement_lines process.body) ++ (codes "end" ∷ []) ∷ []
+process_lines process = ((codes "process" ∷ process.name ∷ at_words process.at) ∷ map statement_line process.body) ++ (codes "end" ∷ []) ∷ []
 
 -- the head, the inputs, the outputs, the channels and the processes
 abbrev pub net_lines : Net → List Words

@@ -1,7 +1,8 @@
 -- What a process does: it reads, computes and sends, statement after statement and round after round (Kahn 1974). A read waits until a value is there.
-use Rattle.std.specs.Prelude.{ℕ, zero, suc, ◌+◌, ◌*◌, ℤ, pos, Bool, false, ◌||◌, List, [], ◌∷◌, ◌++◌, if◌then◌else◌}
+use Rattle.std.specs.Prelude.{ℕ, zero, suc, ◌+◌, ◌*◌, ℤ, pos, ◌+ℤ◌, ◌-ℤ◌, neg_ℤ, Bool, false, ◌||◌, List, [], ◌∷◌, ◌++◌, if◌then◌else◌}
 use Rattle.std.specs.Str.{bytes_eq}
-use Rattle.tis_cli.specs.Net.{Name, Statement, Move, Process}
+use Rattle.tis_base.specs.Saturation.{sat}
+use Rattle.tis_cli.specs.Net.{Name, Var, X, Statement, Get, Put, PutNumber, Move, Set, Add, Sub, Neg, Double, Process}
 
 -- a list of values for each name
 abbrev pub Streams : Type 0
@@ -57,9 +58,28 @@ read_from name doing next = read_first (doing.unread name) name doing next
 abbrev pub send : Name → ℤ → Doing → Doing
 send name value doing = record doing { sent = with_stream doing.sent name (doing.sent name ++ value ∷ []) }
 
+-- the value of a variable, and another one in its place
+abbrev pub value_in : Var → Doing → ℤ
+value_in X doing = doing.x
+
+abbrev pub with_value : Var → ℤ → Doing → Doing
+with_value X value doing = record doing { x = value }
+
+-- one statement, of which the step is counted; sums, differences and negatives are held within the values of the machine
+abbrev pub does : Statement → Doing → Outcome
+does (Get read var) doing = read_from read doing (λ value after. finished (with_value var value after))
+does (Put written var) doing = finished (send written (value_in var doing) doing)
+does (PutNumber written number) doing = finished (send written number doing)
+does (Move read written) doing = read_from read doing (λ value after. finished (send written value after))
+does (Set var number) doing = finished (with_value var number doing)
+does (Add var number) doing = finished (with_value var (sat (value_in var doing +ℤ number)) doing)
+does (Sub var number) doing = finished (with_value var (sat (value_in var doing -ℤ number)) doing)
+does (Neg var) doing = finished (with_value var (sat (neg_ℤ (value_in var doing))) doing)
+does (Double var) doing = finished (with_value var (sat (value_in var doing +ℤ value_in var doing)) doing)
+
 -- one statement, which is one step
 abbrev pub exec_statement : ℕ → Statement → Doing → Outcome
-exec_statement fuel (Move read written) doing = read_from read (stepped doing) (λ value after. finished (send written value after))
+exec_statement fuel statement doing = does statement (stepped doing)
 
 -- the statements of a block, one after the other
 abbrev pub exec : ℕ → List Statement → Doing → Outcome
@@ -78,15 +98,24 @@ beginning streams = record { x = pos 0; y = pos 0; unread = streams; sent = λ n
 -- ---- what is known from the statements alone
 
 abbrev pub statement_reads : Statement → Name → Bool
+statement_reads (Get read var) name = bytes_eq read name
 statement_reads (Move read written) name = bytes_eq read name
+statement_reads (Put written var) name = false
+statement_reads (PutNumber written number) name = false
+statement_reads (Set var number) name = false
+statement_reads (Add var number) name = false
+statement_reads (Sub var number) name = false
+statement_reads (Neg var) name = false
+statement_reads (Double var) name = false
 
 -- whether some statement reads from this name
 abbrev pub reads : List Statement → Name → Bool
 reads [] name = false
 reads (statement ∷ body) name = statement_reads statement name || reads body name
 
+-- the most steps that a statement takes once
 abbrev pub statement_cost : Statement → ℕ
-statement_cost (Move read written) = 1
+statement_cost statement = 1
 
 -- the most steps that a block takes once
 abbrev pub block_cost : List Statement → ℕ

@@ -6,9 +6,9 @@ use Rattle.tis_asm.specs.declared.instr.Source.TheVariants as from
 use Rattle.tis_asm.specs.declared.instr.Dest.{Dest}
 use Rattle.tis_asm.specs.declared.instr.Dest.TheVariants as to
 use Rattle.tis_asm.specs.declared.instr.Instr.{Instr}
-use Rattle.tis_asm.specs.declared.instr.Instr.TheVariants.{Mov}
+use Rattle.tis_asm.specs.declared.instr.Instr.TheVariants.{Mov, Add, Sub, Neg}
 use Rattle.tis_asm.specs.declared.program.Line.{Line}
-use Rattle.tis_asm.specs.Node.{Node, Ready, FitsProgram, instr_at, next_of, can_local_in, local_by, wants_in, put_to, take_by, offers_in}
+use Rattle.tis_asm.specs.Node.{Node, Ready, FitsProgram, instr_at, next_of, can_local_in, with_value, wants_in, put_to, offers_in}
 use Rattle.tis_asm.specs.PortRuns.{Step, Own, Took, Gave, IsStep, after_step, IsPortRun, after_steps}
 
 -- the node can make these steps, and they lead to that node
@@ -37,24 +37,23 @@ does_then program node (step ∷ steps) more middle after first second =
 next_below : (program : List Line) (pc : ℕ) → 0 < length program → next_of program pc < length program
 next_below program pc some = cond_both (nat_lt (pc + 1) (length program)) (pc + 1) 0 (λ next. next < length program) (λ is. ltb-true _ _ is) (λ is. some)
 
--- a local instruction keeps the pc in the program
-local_below : (instr : Option Instr) (program : List Line) (node : Node) → node.pc < length program → (local_by instr program node).pc < length program
-local_below None program node below = below
-local_below (Some (Mov (from.Port port) dest)) program node below = below
-
--- writing keeps the pc
+-- writing keeps the pc in the program
 put_below : (dest : Dest) (program : List Line) (node : Node) (value : ℤ) → node.pc < length program → (put_to dest program node value).pc < length program
+put_below to.Acc program node value below = next_below program node.pc (omega arith)
 put_below (to.Port port) program node value below = below
 
--- reading keeps the pc
-take_below : (instr : Option Instr) (program : List Line) (node : Node) (dir : Dir) (value : ℤ) → node.pc < length program → (take_by instr program node dir value).pc < length program
-take_below None program node dir value below = below
-take_below (Some (Mov (from.Port port) dest)) program node dir value below = put_below dest program node value below
+-- and so does each instruction
+value_below : (instr : Option Instr) (program : List Line) (node : Node) (value : ℤ) → node.pc < length program → (with_value instr program node value).pc < length program
+value_below None program node value below = below
+value_below (Some (Mov source dest)) program node value below = put_below dest program node value below
+value_below (Some (Add source)) program node value below = next_below program node.pc (omega arith)
+value_below (Some (Sub source)) program node value below = next_below program node.pc (omega arith)
+value_below (Some Neg) program node value below = next_below program node.pc (omega arith)
 
 -- a step keeps the pc in the program
 step_below : (program : List Line) (node : Node) (step : Step) → node.pc < length program → (after_step program node step).pc < length program
-step_below program node Own below = local_below (instr_at program node.pc) program node below
-step_below program node (Took dir value) below = take_below (instr_at program node.pc) program node dir value below
+step_below program node Own below = value_below (instr_at program node.pc) program node _ below
+step_below program node (Took dir value) below = value_below (instr_at program node.pc) program node value below
 step_below program node (Gave dir value) below = next_below program node.pc (omega arith)
 
 -- a node without instructions can make no step
