@@ -1,5 +1,5 @@
 use crate::{Refusal, Status, describe, tool};
-use std::alloc::Global;
+use std::alloc::{AllocError, Global};
 use std::test::Fail;
 use tis_base::{MemSink, MemStore, NoMemory, Sink, Store, Value, Values};
 
@@ -63,6 +63,123 @@ fn a_network_is_compiled_to_its_save(rt: HostRuntime) -> Result<(), Fail> {
         assert_eq!(rt; store.get("s"), Some(save));
         assert_eq!(rt; store.get("n"), Some(net));
         assert_eq!(rt; out.written(), b"".as_slice());
+    }
+    Ok(())
+}
+
+#[test]
+fn processes_are_compiled_to_their_code(rt: HostRuntime) -> Result<(), Fail> {
+    for (net, save) in [
+        // Two processes, and one tile that the output passes.
+        (
+            "net 1\ntiles CCCC CCCC CCCC\ninput a at 2 via\noutput o at 2 via 10\nchannel c via\nprocess p at 2\nget a x\ndouble x\nput c x\nend\nprocess q at 6\nget c x\nsub x 1\nput o x\nend\n",
+            "@2\nMOV UP, ACC\nADD ACC\nMOV ACC, DOWN\n\n@6\nMOV UP, ACC\nSUB 1\nMOV ACC, DOWN\n\n@10\nMOV UP, DOWN\n\n",
+        ),
+        // Sums at both ends of the values.
+        (
+            "net 1\ntiles CCCC CCCC CCCC\ninput a at 1 via\noutput o at 1 via 5 9\nprocess p at 1\nget a x\nadd x 1\nput o x\nend\n",
+            "@1\nMOV UP, ACC\nADD 1\nMOV ACC, DOWN\n\n@5\nMOV UP, DOWN\n\n@9\nMOV UP, DOWN\n\n",
+        ),
+        (
+            "net 1\ntiles CCCC CCCC CCCC\ninput a at 1 via\noutput o at 1 via 5 9\nprocess p at 1\nget a x\nsub x 1\nput o x\nend\n",
+            "@1\nMOV UP, ACC\nSUB 1\nMOV ACC, DOWN\n\n@5\nMOV UP, DOWN\n\n@9\nMOV UP, DOWN\n\n",
+        ),
+        (
+            "net 1\ntiles CCCC CCCC CCCC\ninput a at 1 via\noutput o at 1 via 5 9\nprocess p at 1\nget a x\ndouble x\ndouble x\nput o x\nend\n",
+            "@1\nMOV UP, ACC\nADD ACC\nADD ACC\nMOV ACC, DOWN\n\n@5\nMOV UP, DOWN\n\n@9\nMOV UP, DOWN\n\n",
+        ),
+        // Three processes in the first column, with each statement, and none in between.
+        (
+            "net 1\ntiles CCCC CCCC CCCC\ninput a at 0 via\noutput o at 0 via\nchannel c via\nchannel d via\nprocess p at 0\nmove a c\nend\nprocess q at 4\nget c x\nset x -999\nneg x\nadd x -5\nput d x\nend\nprocess r at 8\nget d x\nput o 999\nend\n",
+            "@0\nMOV UP, DOWN\n\n@4\nMOV UP, ACC\nMOV -999, ACC\nNEG\nADD -5\nMOV ACC, DOWN\n\n@8\nMOV UP, ACC\nMOV 999, DOWN\n\n",
+        ),
+        // The last column.
+        (
+            "net 1\ntiles CCCC CCCC CCCC\ninput a at 3 via\noutput o at 3 via 11\nchannel x via\nprocess a at 3\nget a x\nput x 0\nend\nprocess x at 7\nmove x o\nend\n",
+            "@3\nMOV UP, ACC\nMOV 0, DOWN\n\n@7\nMOV UP, DOWN\n\n@11\nMOV UP, DOWN\n\n",
+        ),
+    ] {
+        let mut store = MemStore::honest(rt.alloc());
+        let mut out = MemSink::honest(rt.alloc());
+        store.set("n", net.as_bytes())?;
+        let status = answer(rt.alloc(), &["compile", "n", "s"], &mut store, &mut out)?;
+        assert_eq!(rt; status, Status::Done, "{net}");
+        assert_eq!(rt; store.get("s"), Some(save.as_bytes()), "{net}");
+        assert_eq!(rt; out.written(), b"".as_slice());
+    }
+    Ok(())
+}
+
+// A network of one process that adds one so many times, so that its body has two lines more.
+fn net_that_adds(alloc: Global, times: usize) -> Result<String, AllocError> {
+    let mut net = String::from_str(
+        alloc,
+        "net 1\ntiles CCCC CCCC CCCC\ninput a at 1 via\noutput o at 1 via 5 9\nprocess p at 1\nget a x\n",
+    )?;
+    for _ in 0..times {
+        net.push_str("add x 1\n")?;
+    }
+    net.push_str("put o x\nend\n")?;
+    Ok(net)
+}
+
+#[test]
+fn a_body_has_at_most_fifteen_lines(rt: HostRuntime) -> Result<(), Fail> {
+    for (times, status) in [
+        (0, Status::Done),
+        (13, Status::Done),
+        (14, Status::Refused(Refusal::NotThisForm)),
+        (100, Status::Refused(Refusal::NotThisForm)),
+    ] {
+        let mut store = store_with_save(rt.alloc(), &[])?;
+        let mut out = MemSink::honest(rt.alloc());
+        store.set("n", net_that_adds(rt.alloc(), times)?.as_bytes())?;
+        let got = answer(rt.alloc(), &["compile", "n", "s"], &mut store, &mut out)?;
+        assert_eq!(rt; got, status, "{times} lines in between");
+        let is_kept = store.get("s") != Some(OLD_SAVE);
+        assert_eq!(rt; is_kept, got == Status::Done);
+    }
+    Ok(())
+}
+
+#[test]
+fn a_text_that_is_nearly_a_pipeline_is_refused(rt: HostRuntime) -> Result<(), Fail> {
+    let mut out = MemSink::honest(rt.alloc());
+    for text in [
+        // The other variable.
+        "net 1\ntiles CCCC CCCC CCCC\ninput a at 1 via\noutput o at 1 via 5 9\nprocess p at 1\nget a y\nput o y\nend\n",
+        // Nothing read, nothing sent, two reads, a statement behind the last one.
+        "net 1\ntiles CCCC CCCC CCCC\ninput a at 1 via\noutput o at 1 via 5 9\nprocess p at 1\nput o 1\nend\n",
+        "net 1\ntiles CCCC CCCC CCCC\ninput a at 1 via\noutput o at 1 via 5 9\nprocess p at 1\nget a x\nneg x\nend\n",
+        "net 1\ntiles CCCC CCCC CCCC\ninput a at 1 via\noutput o at 1 via 5 9\nprocess p at 1\nget a x\nget a x\nput o x\nend\n",
+        "net 1\ntiles CCCC CCCC CCCC\ninput a at 1 via\noutput o at 1 via 5 9\nprocess p at 1\nget a x\nput o x\nneg x\nend\n",
+        "net 1\ntiles CCCC CCCC CCCC\ninput a at 1 via\noutput o at 1 via 5 9\nprocess p at 1\nend\n",
+        // Numbers that are too large, have a sign, a zero in front, or none of the digits.
+        "net 1\ntiles CCCC CCCC CCCC\ninput a at 1 via\noutput o at 1 via 5 9\nprocess p at 1\nget a x\nadd x 1000\nput o x\nend\n",
+        "net 1\ntiles CCCC CCCC CCCC\ninput a at 1 via\noutput o at 1 via 5 9\nprocess p at 1\nget a x\nadd x +1\nput o x\nend\n",
+        "net 1\ntiles CCCC CCCC CCCC\ninput a at 1 via\noutput o at 1 via 5 9\nprocess p at 1\nget a x\nadd x 01\nput o x\nend\n",
+        "net 1\ntiles CCCC CCCC CCCC\ninput a at 1 via\noutput o at 1 via 5 9\nprocess p at 1\nget a x\nadd x -0\nput o x\nend\n",
+        "net 1\ntiles CCCC CCCC CCCC\ninput a at 1 via\noutput o at 1 via 5 9\nprocess p at 1\nget a x\nadd x -\nput o x\nend\n",
+        // A channel that is written twice, links that are crossed, a channel that nobody has.
+        "net 1\ntiles CCCC CCCC CCCC\ninput a at 1 via\noutput o at 1 via 9\nchannel c via\nprocess p at 1\nmove a c\nend\nprocess q at 5\nmove c c\nend\n",
+        "net 1\ntiles CCCC CCCC CCCC\ninput a at 1 via\noutput o at 1 via\nchannel c via\nchannel d via\nprocess p at 1\nmove a d\nend\nprocess q at 5\nmove d c\nend\nprocess r at 9\nmove c o\nend\n",
+        "net 1\ntiles CCCC CCCC CCCC\ninput a at 1 via\noutput o at 1 via 9\nprocess p at 1\nmove a c\nend\nprocess q at 5\nmove c o\nend\n",
+        // One name for two links, and for two processes.
+        "net 1\ntiles CCCC CCCC CCCC\ninput a at 1 via\noutput o at 1 via 9\nchannel a via\nprocess p at 1\nmove a a\nend\nprocess q at 5\nmove a o\nend\n",
+        "net 1\ntiles CCCC CCCC CCCC\ninput a at 1 via\noutput o at 1 via 9\nchannel c via\nprocess p at 1\nmove a c\nend\nprocess p at 5\nmove c o\nend\n",
+        // A path that is too long, one that is too short, and a blank too many.
+        "net 1\ntiles CCCC CCCC CCCC\ninput a at 1 via\noutput o at 1 via 5 9\nchannel c via\nprocess p at 1\nmove a c\nend\nprocess q at 5\nmove c o\nend\n",
+        "net 1\ntiles CCCC CCCC CCCC\ninput a at 1 via\noutput o at 1 via 9\nprocess p at 1\nmove a o\nend\n",
+        "net 1\ntiles CCCC CCCC CCCC\ninput a at 1 via\noutput o at 1 via 5 9\nprocess p at 1\nget a x\ndouble  x\nput o x\nend\n",
+        // Processes that stand in another order, and a fourth one.
+        "net 1\ntiles CCCC CCCC CCCC\ninput a at 1 via\noutput o at 1 via 9\nchannel c via\nprocess p at 5\nmove a c\nend\nprocess q at 1\nmove c o\nend\n",
+        "net 1\ntiles CCCC CCCC CCCC\ninput a at 1 via\noutput o at 1 via\nchannel c via\nchannel d via\nchannel e via\nprocess p at 1\nmove a c\nend\nprocess q at 5\nmove c d\nend\nprocess r at 9\nmove d e\nend\nprocess s at 13\nmove e o\nend\n",
+    ] {
+        let mut store = store_with_save(rt.alloc(), &[])?;
+        store.set("n", text.as_bytes())?;
+        let status = answer(rt.alloc(), &["compile", "n", "s"], &mut store, &mut out)?;
+        assert_eq!(rt; status, Status::Refused(Refusal::NotThisForm), "{text}");
+        assert_eq!(rt; store.get("s"), Some(OLD_SAVE));
     }
     Ok(())
 }
