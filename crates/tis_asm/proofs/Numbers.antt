@@ -1,5 +1,5 @@
 -- The word of a number: what bytes it has, and the number that it is read as.
-use Rattle.std.proofs.Common.{◌≡◌, ℕ, suc, ◌+◌, ◌-◌, ◌*◌, ◌/◌, ◌%◌, ◌^◌, ◌<◌, ◌≤◌, ℤ, pos, negsuc, Bool, true, false, cond, List, [], ◌∷◌, ◌++◌, Option, Some, None, refl, sym, ap, subst, ◌∙◌, arith}
+use Rattle.std.proofs.Common.{◌≡◌, ℕ, suc, ◌+◌, ◌-◌, ◌*◌, ◌/◌, ◌%◌, ◌^◌, ◌<◌, ◌≤◌, ℤ, pos, negsuc, Bool, true, List, [], ◌∷◌, ◌++◌, Some, refl, ap, ◌∙◌, arith}
 use Rattle.std.specs.Prelude.{not, neg_ℤ, option_map, decimal}
 use Rattle.std.specs.List.{list_all}
 use Rattle.std.specs.Fmt.{signed_decimal}
@@ -9,9 +9,8 @@ use Rattle.std.proofs.lemmas.Fmt.{decimal_by_steps}
 use Rattle.std.proofs.lemmas.Int.{ints, clamps}
 use Rattle.tis_base.specs.Saturation.{sat, IsValue}
 use Rattle.tis_base.proofs.TextLines.{is_plain_byte, is_plain_line, list_all-join}
-use Rattle.tis_asm.specs.declared.instr.Source.{Source}
 use Rattle.tis_asm.specs.declared.instr.Source.TheVariants as from
-use Rattle.tis_asm.specs.Assembling.{is_gap, is_filled, is_digit, digits_number, number_of_digits, number_of_word, source_of_word}
+use Rattle.tis_asm.specs.Assembling.{is_gap, is_filled, is_digit, digits_number, number_of_word, source_of_word}
 
 -- ---- bytes
 
