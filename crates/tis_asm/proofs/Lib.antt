@@ -2,4 +2,6 @@ pub mod Texts
 pub mod Listings
 pub mod Passing
 pub mod Counting
+pub mod Numbers
 pub mod ReadingBack
+pub mod Examples

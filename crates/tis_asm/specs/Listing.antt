@@ -1,8 +1,31 @@
 -- Programs, and one for each tile.
-use Rattle.std.specs.Prelude.{◌≡◌, ◌≢◌, ℕ, ◌≤◌, List, [], length, Some, slice_get, get_or}
+use Rattle.std.specs.Prelude.{◌≡◌, ◌≢◌, ℕ, ◌≤◌, List, [], ◌∷◌, length, Some, slice_get, get_or}
+use Rattle.tis_base.specs.Saturation.{IsValue}
 use Rattle.tis_base.specs.Tiles.{Board}
 use Rattle.tis_base.specs.declared.tiles.TileKind.TheVariants.{Compute}
+use Rattle.tis_asm.specs.declared.instr.Source.{Source}
+use Rattle.tis_asm.specs.declared.instr.Source.TheVariants as from
+use Rattle.tis_asm.specs.declared.instr.Instr.{Instr}
+use Rattle.tis_asm.specs.declared.instr.Instr.TheVariants.{Mov, Add, Sub, Neg}
 use Rattle.tis_asm.specs.declared.program.Line.{Line}
+
+-- a source that is a number is one that the machine holds
+abbrev pub SourceHasValue : Source → Type 0
+SourceHasValue (from.Number number) = IsValue number
+SourceHasValue from.Acc = Unit {0}
+SourceHasValue (from.Port dir) = Unit {0}
+
+-- so is the number of an instruction, where it has one
+abbrev pub InstrHasValue : Instr → Type 0
+InstrHasValue (Mov source dest) = SourceHasValue source
+InstrHasValue (Add source) = SourceHasValue source
+InstrHasValue (Sub source) = SourceHasValue source
+InstrHasValue Neg = Unit {0}
+
+-- each number in the program is one that the machine holds
+abbrev pub HasValues : List Line → Type 0
+HasValues [] = Unit {0}
+HasValues (line ∷ program) = InstrHasValue line.instr × HasValues program
 
 -- the tiles, and one program for each of them
 pub record Listing : Type 0 where

@@ -18,12 +18,13 @@ pub fn steps_add_up()
     ensures { StepsAddUp }
 {}
 
-/// The canonical text of a program is read as that program.
+/// The canonical text of a program whose numbers are values is read as that program.
 pub fn programs_read_back()
     ensures { ProgramsReadBack }
 {}
 
-/// The canonical lines of a program are read as that program, whatever blank lines follow.
+/// The canonical lines of a program whose numbers are values are read as that program, whatever
+/// blank lines follow.
 pub fn lines_read_back()
     ensures { LinesReadBack }
 {}

@@ -11,7 +11,7 @@ use Rattle.tis_base.specs.declared.tiles.TileKind.{TileKind}
 use Rattle.tis_base.specs.declared.tiles.TileKind.TheVariants.{Compute}
 use Rattle.tis_base.specs.declared.tiles.Dir.TheVariants.{Down}
 use Rattle.tis_asm.specs.declared.program.Line.{Line}
-use Rattle.tis_asm.specs.Listing.{IsListing}
+use Rattle.tis_asm.specs.Listing.{IsListing, HasValues, program_at}
 use Rattle.tis_grid.specs.Puzzle.{Puzzle, Input, Output, IsPuzzle}
 use Rattle.tis_grid.specs.State.{Grid, IsGrid}
 use Rattle.tis_grid.specs.Events.{program_of}
@@ -21,6 +21,7 @@ use Rattle.tis_cli.specs.Compiled.{statement_code, code_of, pass_code, passes, s
 use Rattle.tis_cli.specs.Carries.{grid_with}
 use Rattle.tis_cli.specs.Stage.{Stage, StandsOn, StandDown, IsAmong, IsStack}
 use Rattle.tis_cli.proofs.Bodies.{body_short}
+use Rattle.tis_cli.proofs.BodyValues.{body_values}
 use Rattle.tis_cli.proofs.PassStage.{pass_stage}
 use Rattle.tis_cli.proofs.ColumnStages.{line_stages, length-line_stages, column_stages, IsApart, no_code, HavePrograms, have_programs-append, line_programs, passed, not_passed}
 
@@ -80,6 +81,24 @@ code_short tile read (written ∷ names) [] line other short at = absurd line
 link_short : (is_passed : Bool) → length (if is_passed then pass_code else []) ≤ 15
 link_short true = omega arith
 link_short false = omega arith
+
+-- a choice between code and what stands there otherwise has values, where both have
+choice_values : (stands : Bool) (code other : List Line) (lower : Option (List Line)) → HasValues code → HasValues (unwrap_or lower other) → HasValues (unwrap_or (if stands then Some code else lower) other)
+choice_values true code other lower here below = here
+choice_values false code other lower here below = below
+
+-- the numbers in the code of each process are values
+code_values : (tile : ℕ) (read : Name) (names : List Name) (processes : List Process) → StandInLine tile read names processes → (other : List Line) → HasValues other → (at : ℕ) → HasValues (unwrap_or (process_code_at processes at) other)
+code_values tile read [] [] line other are at = are
+code_values tile read (written ∷ names) (process ∷ processes) line other are at =
+    choice_values (stands_at process.at at) (code_of process.body) other (process_code_at processes at) (body_values read written process.body line.0.body) (code_values (tile + 4) written names processes line.1 other are at)
+code_values tile read [] (process ∷ processes) line other are at = absurd line
+code_values tile read (written ∷ names) [] line other are at = absurd line
+
+-- there are no numbers on other tiles
+link_values : (is_passed : Bool) → HasValues (if is_passed then pass_code else [])
+link_values true = (tt, tt)
+link_values false = tt
 
 -- ---- the grid
 
@@ -161,6 +180,19 @@ program-short column inputs outputs tile is_column =
           (code_short column.position column.input (links_below column) column.processes is_column.in_line (link_code column tile) (link_short (list_any (λ port. passes port tile) (column_net column).outputs)) tile)
       | inr outside ↦ subst (λ (p : List Line). length p ≤ 15) (sym (program-outside column inputs outputs tile outside)) (omega arith)
     ]
+
+-- the numbers in each program of the grid are values
+program-values : (column : Column) (inputs : List Input) (outputs : List Output) (tile : ℕ) → IsColumn column → HasValues (program_of (column_grid column inputs outputs) tile)
+program-values column inputs outputs tile is_column =
+    elim (cases_lt tile 12) [
+      | inl inside ↦ subst (λ (p : List Line). HasValues p) (sym (program-inside column inputs outputs tile inside))
+          (code_values column.position column.input (links_below column) column.processes is_column.in_line (link_code column tile) (link_values (list_any (λ port. passes port tile) (column_net column).outputs)) tile)
+      | inr outside ↦ subst (λ (p : List Line). HasValues p) (sym (program-outside column inputs outputs tile outside)) tt
+    ]
+
+-- so are those in the programs of a column
+pub column_values : (column : Column) → IsColumn column → (tile : ℕ) → HasValues (program_at (compiled (column_net column)).programs tile)
+column_values column is_column tile = program-values column [] [] tile is_column
 
 -- the programs of a column are a listing
 pub column_is_listing : (column : Column) → IsColumn column → IsListing (compiled (column_net column))

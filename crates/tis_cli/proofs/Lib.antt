@@ -15,6 +15,7 @@ pub mod Places
 pub mod BodyStage
 pub mod ColumnStages
 pub mod ColumnKahn
+pub mod BodyValues
 pub mod ColumnPrograms
 pub mod Columns
 pub mod SaveLines

@@ -12,9 +12,9 @@ use Rattle.tis_base.specs.Tiles.{Board, is_compute, block_of}
 use Rattle.tis_base.specs.declared.tiles.TileKind.TheVariants.{Compute, Damaged}
 use Rattle.tis_base.proofs.TextLines.{is_plain_byte, is_plain_line, list_all-join, text_lines-text_of_lines, text_of_lines-append}
 use Rattle.tis_asm.specs.declared.instr.Instr.{Instr}
-use Rattle.tis_asm.specs.declared.instr.Instr.TheVariants.{Mov}
+use Rattle.tis_asm.specs.declared.instr.Instr.TheVariants.{Mov, Add, Sub, Neg}
 use Rattle.tis_asm.specs.declared.program.Line.{Line}
-use Rattle.tis_asm.specs.Listing.{Listing, IsListing, program_at}
+use Rattle.tis_asm.specs.Listing.{Listing, IsListing, HasValues, program_at}
 use Rattle.tis_asm.specs.Code.{line_text}
 use Rattle.tis_asm.proofs.ReadingBack.{program_is_plain}
 use Rattle.tis_cli.specs.Saves.{head_of, block_text, tile_text, is_head, computes}
@@ -58,6 +58,9 @@ is_code line = not (is_head line)
 marked_is_code : (mark : Bool) (instr : Instr) → is_code (line_text (record { instr = instr; mark = mark })) ≡ true
 marked_is_code true instr = refl
 marked_is_code false (Mov source dest) = refl
+marked_is_code false (Add source) = refl
+marked_is_code false (Sub source) = refl
+marked_is_code false Neg = refl
 
 -- so no line of a program is one
 program_is_code : (program : List Line) → list_all is_code (map line_text program) ≡ true
@@ -116,19 +119,19 @@ decimal_is_plain =
     (λ number digits le plain. list_all-join is_plain_byte digits ((48 + number % 10) ∷ []) plain (digit_is_plain (number % 10)))
 
 -- nor in a block
-section_is_plain : (head : List ℕ) (program : List Line) → is_plain_line head ≡ true → list_all is_plain_line (section_of head program) ≡ true
-section_is_plain head [] plain = refl
-section_is_plain head (line ∷ program) plain =
-    and_from (is_plain_line head) (list_all is_plain_line (map line_text (line ∷ program) ++ [] ∷ [])) plain (list_all-join is_plain_line (map line_text (line ∷ program)) ([] ∷ []) (program_is_plain (line ∷ program)) refl)
+section_is_plain : (head : List ℕ) (program : List Line) → HasValues program → is_plain_line head ≡ true → list_all is_plain_line (section_of head program) ≡ true
+section_is_plain head [] are plain = refl
+section_is_plain head (line ∷ program) are plain =
+    and_from (is_plain_line head) (list_all is_plain_line (map line_text (line ∷ program) ++ [] ∷ [])) plain (list_all-join is_plain_line (map line_text (line ∷ program)) ([] ∷ []) (program_is_plain (line ∷ program) are) refl)
 
 -- nor in all blocks
-sections_are_plain : (listing : Listing) (tiles : List ℕ) → length listing.tiles.kinds < 2 ^ 64 → list_all is_plain_line (flat_map (tile_section listing) tiles) ≡ true
-sections_are_plain listing [] small = refl
-sections_are_plain listing (tile ∷ tiles) small =
+sections_are_plain : (listing : Listing) (tiles : List ℕ) → ((tile : ℕ) → HasValues (program_at listing.programs tile)) → length listing.tiles.kinds < 2 ^ 64 → list_all is_plain_line (flat_map (tile_section listing) tiles) ≡ true
+sections_are_plain listing [] are small = refl
+sections_are_plain listing (tile ∷ tiles) are small =
     list_all-join is_plain_line (tile_section listing tile) (flat_map (tile_section listing) tiles)
-    (section_is_plain (head_of listing.tiles tile) (program_at listing.programs tile) (decimal_is_plain (block_of listing.tiles tile) (block_is_small listing.tiles tile small)))
-    (sections_are_plain listing tiles small)
+    (section_is_plain (head_of listing.tiles tile) (program_at listing.programs tile) (are tile) (decimal_is_plain (block_of listing.tiles tile) (block_is_small listing.tiles tile small)))
+    (sections_are_plain listing tiles are small)
 
 -- the lines of the text of the blocks
-pub sections-lines : (listing : Listing) (tiles : List ℕ) → length listing.tiles.kinds < 2 ^ 64 → text_lines (flat_map (tile_text listing) tiles) ≡ flat_map (tile_section listing) tiles
-sections-lines listing tiles small = ap text_lines (sections-text listing tiles) ∙ text_lines-text_of_lines (flat_map (tile_section listing) tiles) (sections_are_plain listing tiles small)
+pub sections-lines : (listing : Listing) (tiles : List ℕ) → ((tile : ℕ) → HasValues (program_at listing.programs tile)) → length listing.tiles.kinds < 2 ^ 64 → text_lines (flat_map (tile_text listing) tiles) ≡ flat_map (tile_section listing) tiles
+sections-lines listing tiles are small = ap text_lines (sections-text listing tiles) ∙ text_lines-text_of_lines (flat_map (tile_section listing) tiles) (sections_are_plain listing tiles are small)

@@ -1,4 +1,4 @@
--- The canonical save of a listing is read as that listing.
+-- The canonical save of a listing whose numbers are values is read as that listing.
 use Rattle.std.proofs.Common.{◌≡◌, ℕ, zero, suc, ◌+◌, ◌*◌, ◌^◌, ◌<◌, ◌≤◌, Bool, true, false, cond, List, [], ◌∷◌, ◌++◌, length, map, Option, Some, None, refl, sym, ap, subst, ◌∙◌, inl, inr, arith, append_assoc}
 use Rattle.std.specs.Prelude.{◌&&◌, flat_map, not, Result, Ok}
 use Rattle.std.specs.List.{range_with_len, list_all, list_any, take_while}
@@ -13,7 +13,7 @@ use Rattle.std.proofs.lemmas.Slice.Eq.{bytes_eq-Decides}
 use Rattle.tis_base.proofs.TextLines.{not_is}
 use Rattle.tis_base.specs.Tiles.{Board, block_of}
 use Rattle.tis_asm.specs.declared.program.Line.{Line}
-use Rattle.tis_asm.specs.Listing.{Listing, IsListing, program_at}
+use Rattle.tis_asm.specs.Listing.{Listing, IsListing, HasValues, program_at}
 use Rattle.tis_asm.specs.Code.{line_text}
 use Rattle.tis_asm.specs.Assembling.{is_blank, assembled_lines}
 use Rattle.tis_asm.proofs.ReadingBack.{lines_read_back}
@@ -74,9 +74,9 @@ find_section head (line ∷ program) rest absent ends =
     ∙ append-nil (map line_text (line ∷ program) ++ [] ∷ [])
 
 -- what stands below a head is read as the program
-body-read : (program : List Line) → length program ≤ 15 → assembled_lines (body_of program) ≡ Ok program
-body-read [] few = refl
-body-read (line ∷ program) few = lines_read_back (line ∷ program) ([] ∷ []) few refl
+body-read : (program : List Line) → length program ≤ 15 → HasValues program → assembled_lines (body_of program) ≡ Ok program
+body-read [] few are = refl
+body-read (line ∷ program) few are = lines_read_back (line ∷ program) ([] ∷ []) few are refl
 
 -- nothing is wrong with code below a head
 code_is_right : (tiles : Board) (above code rest : List (List ℕ)) → list_any is_head above ≡ true → list_all is_code code ≡ true → first_fault tiles above (code ++ rest) ≡ first_fault tiles (above ++ code) rest
@@ -101,7 +101,7 @@ head_is_right tiles above number tile inside computing fresh = rw (is_head_on-he
 
 -- ---- the blocks of all tiles
 
-module _ (listing : Listing) (small : length listing.tiles.kinds < 2 ^ 64) (is : IsListing listing) where
+module _ (listing : Listing) (small : length listing.tiles.kinds < 2 ^ 64) (is : IsListing listing) (are : (tile : ℕ) → HasValues (program_at listing.programs tile)) where
   -- the lines of the blocks of so many tiles from this one on
   abbrev lines_from : ℕ → ℕ → List (List ℕ)
   lines_from start count = flat_map (tile_section listing) (range_with_len start count)
@@ -194,7 +194,7 @@ module _ (listing : Listing) (small : length listing.tiles.kinds < 2 ^ 64) (is :
       elim (cases_Bool (computes listing.tiles tile)) [
         | inl computing ↦
             ap (λ (b : Bool). cond b (in_block (block_of listing.tiles tile) (assembled_lines (block_lines (head_at tile) all_lines))) (Ok [])) computing
-            ∙ ap (in_block (block_of listing.tiles tile)) (ap assembled_lines (each_block tile 0 (length listing.tiles.kinds) (omega arith) (omega arith) (omega arith) computing) ∙ body-read (code_at tile) (is.short tile))
+            ∙ ap (in_block (block_of listing.tiles tile)) (ap assembled_lines (each_block tile 0 (length listing.tiles.kinds) (omega arith) (omega arith) (omega arith) computing) ∙ body-read (code_at tile) (is.short tile) (are tile))
         | inr resting ↦
             ap (λ (b : Bool). cond b (in_block (block_of listing.tiles tile) (assembled_lines (block_lines (head_at tile) all_lines))) (Ok [])) resting
             ∙ ap (λ (program : List Line). Ok program) (sym (no_program listing is tile resting))
@@ -223,8 +223,8 @@ module _ (listing : Listing) (small : length listing.tiles.kinds < 2 ^ 64) (is :
   -- the text of a save is read as the listing
   pub save-read : save_of (save_text listing) listing.tiles ≡ Ok listing
   unfolding save_of
-  save-read = ap (λ (lines : List (List ℕ)). save_of_lines lines listing.tiles) (sections-lines listing (range_with_len 0 (length listing.tiles.kinds)) small) ∙ all_lines-read
+  save-read = ap (λ (lines : List (List ℕ)). save_of_lines lines listing.tiles) (sections-lines listing (range_with_len 0 (length listing.tiles.kinds)) are small) ∙ all_lines-read
 
--- the canonical save of a listing is read as that listing
+-- the canonical save of a listing whose numbers are values is read as that listing
 pub saves_read_back : SavesReadBack
-saves_read_back listing board is = save-read listing (omega (arith, board.filled, ap (λ (columns : ℕ). columns * listing.tiles.shape.rows) board.allowed.0, ap (λ (rows : ℕ). 4 * rows) board.allowed.1)) is
+saves_read_back listing board is are = save-read listing (omega (arith, board.filled, ap (λ (columns : ℕ). columns * listing.tiles.shape.rows) board.allowed.0, ap (λ (rows : ℕ). 4 * rows) board.allowed.1)) is are

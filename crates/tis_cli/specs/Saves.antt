@@ -7,7 +7,7 @@ use Rattle.tis_base.specs.declared.tiles.TileKind.TheVariants.{Damaged}
 use Rattle.tis_base.specs.Lines.{text_lines}
 use Rattle.tis_base.specs.Tiles.{Board, IsBoard, is_compute, block_of}
 use Rattle.tis_asm.specs.declared.program.Line.{Line}
-use Rattle.tis_asm.specs.Listing.{Listing, IsListing, program_at}
+use Rattle.tis_asm.specs.Listing.{Listing, IsListing, HasValues, program_at}
 use Rattle.tis_asm.specs.Code.{code_text}
 use Rattle.tis_asm.specs.Assembling.{AsmRefusal, is_blank, assembled_lines}
 
@@ -113,6 +113,6 @@ save_of text tiles = save_of_lines (text_lines text) tiles
 
 -- ---- both
 
--- the canonical save of a listing is read as that listing
+-- the canonical save of a listing whose numbers are values is read as that listing
 abbrev pub SavesReadBack : Type 0
-SavesReadBack = (listing : Listing) → IsBoard listing.tiles.shape listing.tiles.kinds → IsListing listing → save_of (save_text listing) listing.tiles ≡ Ok listing
+SavesReadBack = (listing : Listing) → IsBoard listing.tiles.shape listing.tiles.kinds → IsListing listing → ((tile : ℕ) → HasValues (program_at listing.programs tile)) → save_of (save_text listing) listing.tiles ≡ Ok listing

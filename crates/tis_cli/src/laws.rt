@@ -7,7 +7,7 @@ pub fn processes_behave()
     ensures { ProcessesBehave }
 {}
 
-/// The canonical save of a listing is read as that listing.
+/// The canonical save of a listing whose numbers are values is read as that listing.
 pub fn saves_read_back()
     ensures { SavesReadBack }
 {}
