@@ -1,16 +1,24 @@
 -- Small saves, written and read.
 use Rattle.std.proofs.Common.{◌≡◌, ℕ, List, [], ◌∷◌, refl}
-use Rattle.std.specs.Prelude.{codes, Ok, Err}
+use Rattle.std.specs.Prelude.{codes, Some, Ok, Err}
 use Rattle.std.specs.Fmt.{digits}
 use Rattle.tis_asm.specs.Listing.{Listing}
 use Rattle.tis_asm.specs.Assembling.{BadLine}
 use Rattle.tis_cli.specs.Column.{Column, column_net, plain_board}
 use Rattle.tis_cli.specs.Compiled.{pass_code, compiled}
+use Rattle.tis_cli.specs.Net.{Move}
 use Rattle.tis_cli.specs.Saves.{BadHead, RepeatedBlock, StrayCode, Asm, save_text, save_of}
 
 -- the column at position 1, whose names have one letter each
 abbrev column_a : Column
-column_a = record { position = 1; input = codes "a"; output = codes "o"; process = codes "p" }
+column_a =
+    record {
+      position = 1;
+      input = codes "a";
+      output = codes "o";
+      channels = [];
+      processes = record { name = codes "p"; at = Some 1; body = Move (codes "a") (codes "o") ∷ [] } ∷ [];
+    }
 
 -- its save
 abbrev save_a : List ℕ

@@ -21,3 +21,4 @@ pub mod Columns
 pub mod SaveLines
 pub mod SavesReadBack
 pub mod Examples
+mod StreamExamples
