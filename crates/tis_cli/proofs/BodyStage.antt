@@ -1,5 +1,5 @@
 -- The code of each body of a column behaves as its process, and is a stage.
-use Rattle.std.proofs.Common.{◌≡◌, ℕ, ◌+◌, ◌*◌, ◌≤◌, ℤ, List, [], ◌∷◌, ◌++◌, length, map, sym, ap, ◌∙◌, append-nil, arith}
+use Rattle.std.proofs.Common.{◌≡◌, ℕ, ◌+◌, ◌*◌, ◌≤◌, ℤ, List, [], ◌∷◌, ◌++◌, length, map, refl, sym, ap, ◌∙◌, append-nil, arith}
 use Rattle.std.proofs.Math.Nat.{mul-le-mul_left}
 use Rattle.std.proofs.lemmas.List.{length-map, map-append}
 use Rattle.tis_base.specs.Prefix.{IsPrefixOf}
@@ -9,7 +9,7 @@ use Rattle.tis_asm.specs.PortRuns.{Step, after_steps, taken_from, given_to}
 use Rattle.tis_cli.specs.Net.{Name, Statement}
 use Rattle.tis_cli.specs.Process.{WaitsOn, OutOfFuel, beginning}
 use Rattle.tis_cli.specs.Compiled.{code_of}
-use Rattle.tis_cli.specs.Behaves.{stream_of, process_over, BehavesAfter, Behaves, ProcessesBehave}
+use Rattle.tis_cli.specs.Behaves.{stream_of, process_over, BehavesAfter, Behaves, ProcessesBehave, ProcessesWait}
 use Rattle.tis_cli.specs.Stage.{WorksAs, Stage}
 use Rattle.tis_cli.proofs.Bodies.{Round, Moves, Computes, round_value, round_local, round_of}
 use Rattle.tis_cli.proofs.Rounds.{with_stream-same, SendsAll, sends_all}
@@ -57,6 +57,10 @@ body_behaves {read = read} {written = written} {body = body} round steps run =
 -- the code of each process of a column behaves as the process
 pub processes_behave : ProcessesBehave
 processes_behave read written body is_body = body_behaves (round_of read written body is_body)
+
+-- each process of a column comes to wait
+pub processes_wait : ProcessesWait
+processes_wait read written body is_body streams fuel enough = (sends_all (round_of read written body is_body) (streams read) fuel (beginning streams) enough refl).waits
 
 -- ---- stages
 

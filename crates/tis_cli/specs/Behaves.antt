@@ -1,5 +1,5 @@
 -- What it means that the program of a node behaves as a process: step by step the node gives what the process sends.
-use Rattle.std.specs.Prelude.{◌≡◌, ◌≢◌, ◌+◌, ◌*◌, ◌≤◌, ℤ, List, [], ◌∷◌, ◌++◌, length, Some, IsTrue}
+use Rattle.std.specs.Prelude.{◌≡◌, ◌≢◌, ℕ, ◌+◌, ◌*◌, ◌<◌, ◌≤◌, ℤ, List, [], ◌∷◌, ◌++◌, length, Some, IsTrue}
 use Rattle.tis_base.specs.Prefix.{IsPrefixOf}
 use Rattle.tis_base.specs.declared.tiles.Dir.{Dir}
 use Rattle.tis_base.specs.declared.tiles.Dir.TheVariants.{Up, Down}
@@ -36,3 +36,8 @@ Behaves program body read written = (steps : List Step) → IsPortRun program fr
 -- the code of each process of a column behaves as the process
 abbrev pub ProcessesBehave : Type 0
 ProcessesBehave = (read written : Name) (body : List Statement) → IsBody read written body → Behaves (code_of body) body read written
+
+-- over any streams, with more rounds than there are values to read, a process of a column comes to wait for one more value; so its fuel is never used up
+abbrev pub ProcessesWait : Type 0
+ProcessesWait = (read written : Name) (body : List Statement) → IsBody read written body → (streams : Streams) (fuel : ℕ) → length (streams read) < fuel →
+    (rounds fuel body (beginning streams)).ending ≡ WaitsOn read
