@@ -24,10 +24,8 @@ fn compile<S: Store>(alloc: Global, net: &str, save: &str, store: &mut S) -> Res
     ensures fault_counted { IsErrOf result Status.StoreFault → Rose (S.faults store.old) (S.faults store.new) }
 {
     let text = store.fetch(alloc, net)?;
-    let Some(column) = read_net(&text) else {
-        return Err(Status::Refused(Refusal::NotThisForm));
-    };
-    let programs = emit(alloc, &column)?;
+    let tree = read_net(alloc, &text)?;
+    let programs = emit(alloc, &tree)?;
     let bytes = write_save(alloc, &programs)?;
     store.keep(save, &bytes)?;
     Ok(())
