@@ -27,8 +27,8 @@ statements_of body = map statement_of body
 abbrev pub port_of : held_port.PortLine → PortLine
 port_of port = record { name = port.name; position = port.position; via = port.via }
 
-abbrev pub channel_of : held_channel.ChannelLine → ChannelLine
-channel_of channel = record { name = channel.name; via = channel.via }
+abbrev pub line_of : held_channel.ChannelLine → ChannelLine
+line_of channel = record { name = channel.name; via = channel.via }
 
 abbrev pub process_of : held_process.ProcessText → Process
 process_of process = record { name = process.name; at = process.at; body = statements_of process.body }
@@ -43,7 +43,7 @@ net_of net =
       tiles = net.tiles;
       inputs = map port_of net.inputs.items;
       outputs = map port_of net.outputs.items;
-      channels = map channel_of net.channels.items;
+      channels = map line_of net.channels.items;
       processes = map process_of net.processes.items;
     }
 

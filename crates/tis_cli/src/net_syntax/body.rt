@@ -1,5 +1,5 @@
 //! Reading what a process does.
-ghost use Rattle.std.specs.Prelude.{◌≡◌, [], ◌∷◌};
+ghost use Rattle.std.specs.Prelude.{◌≡◌, ◌<◌, [], ◌∷◌, length, IfSome};
 ghost use Rattle.tis_cli.specs.Reading.{Reads, value_line_at, other_operation_at, operation_at, operations_at, put_at, get_at, move_at, body_at};
 ghost use Rattle.tis_cli.specs.Tree.{statement_of, statements_of};
 
@@ -55,7 +55,8 @@ fn read_operation(reader: &mut Reader) -> Option<Statement>
 
 // Reads the lines that compute, up to the word of one that sends, onto the line that reads.
 fn read_operations(reader: &mut Reader, first: Statement) -> Option<Block>
-    ensures { Reads statements_of result reader.new (operations_at 14 (statement_of first ∷ []) reader.old) }
+    ensures reads { Reads statements_of result reader.new (operations_at 14 (statement_of first ∷ []) reader.old) }
+    ensures room { IfSome result (λ body. length body < 15) }
 {
     let mut body = Block::new();
     body.push(first);

@@ -1,9 +1,9 @@
 //! The networks that are taken so far.
-ghost use Rattle.std.specs.Prelude.{◌≡◌, ◌≢◌, ◌<◌, ◌+◌, ◌*◌, ◌++◌, [], ◌∷◌, length, map, All, Some, None, option_map, IfSome, IfOk, Err};
+ghost use Rattle.std.specs.Prelude.{◌≡◌, ◌≢◌, ◌<◌, ◌+◌, ◌*◌, ◌++◌, [], ◌∷◌, length, map, Some, None, option_map, IfSome, IfOk, Err};
 ghost use Rattle.tis_cli.specs.Net.{Net as SomeNet};
-ghost use Rattle.tis_cli.specs.Column.{NetOf, column_net, plain_board, tiles_below};
+ghost use Rattle.tis_cli.specs.Column.{NetOf, channel_of, column_net, plain_board, tiles_below};
 ghost use Rattle.tis_cli.specs.Reading.{Reads, input_at, passed_at, output_at, channel_at, channels_at, process_at, processes_at, column_at, all_differ, links_differ as links_all_differ, is_among as is_one_of, process_names};
-ghost use Rattle.tis_cli.specs.Tree.{net_of, port_of, channel_name, process_of};
+ghost use Rattle.tis_cli.specs.Tree.{net_of, port_of, line_of, channel_name, process_of};
 
 use super::body::read_body;
 use super::name::Name;
@@ -98,12 +98,14 @@ fn read_process(reader: &mut Reader, tile: u8, read: &Name, written: &Name) -> O
 // Reads so many channels, each pinned to go directly.
 fn read_channels(alloc: Global, reader: &mut Reader, count: u8) -> Result<Vec<ChannelLine>, NetError>
     ensures read { IfOk result (λ channels. channels_at count [] reader.old ≡ Some (map channel_name channels.items, reader.new)) }
-    ensures direct { IfOk result (λ channels. All (λ channel. channel.via ≡ Some []) channels.items) }
+    ensures direct { IfOk result (λ channels. map line_of channels.items ≡ map channel_of (map channel_name channels.items)) }
     ensures refused { result ≡ Err NetError.NotThisForm → channels_at count [] reader.old ≡ None }
 {
     let mut channels = Vec::new(alloc);
     for _channel in 0..count {
-        let name = read_channel(reader).ok_or(NetError::NotThisForm)?;
+        let Some(name) = read_channel(reader) else {
+            return Err(NetError::NotThisForm);
+        };
         channels.push(ChannelLine {
             name,
             via: Some(Path::new()),
@@ -130,12 +132,16 @@ fn read_processes(
     let mut tile = position;
     let mut read = input;
     for channel in channels {
-        let process = read_process(reader, tile, read, &channel.name).ok_or(NetError::NotThisForm)?;
+        let Some(process) = read_process(reader, tile, read, &channel.name) else {
+            return Err(NetError::NotThisForm);
+        };
         processes.push(process)?;
         tile += 4;
         read = &channel.name;
     }
-    let process = read_process(reader, tile, read, output).ok_or(NetError::NotThisForm)?;
+    let Some(process) = read_process(reader, tile, read, output) else {
+        return Err(NetError::NotThisForm);
+    };
     processes.push(process)?;
     Ok(processes)
 }
@@ -144,14 +150,20 @@ fn read_processes(
 fn is_among(name: &Name, channels: &[ChannelLine]) -> bool
     ensures { result ≡ is_one_of name.now (map channel_name channels.now) }
 {
-    channels.iter().any(|channel| channel.name.is(name))
+    match channels {
+        [] => false,
+        [first, rest @ ..] => first.name.is(name) || is_among(name, rest),
+    }
 }
 
 // Whether a process has this name.
 fn is_name_of(name: &Name, processes: &[ProcessText]) -> bool
     ensures { result ≡ is_one_of name.now (process_names (map process_of processes.now)) }
 {
-    processes.iter().any(|process| process.name.is(name))
+    match processes {
+        [] => false,
+        [first, rest @ ..] => first.name.is(name) || is_name_of(name, rest),
+    }
 }
 
 // Whether the names of the channels differ from each other.
@@ -226,13 +238,18 @@ fn one_port(alloc: Global, name: Name, position: u8, path: Path) -> Result<Vec<P
 }
 
 // The network that is read of all of the text.
+#[tactic(auto, unfolding(crate::specs::Reading::column_at, crate::specs::Reading::whole, crate::specs::Reading::followed_by))]
 fn read_column(alloc: Global, text: &[u8]) -> Result<Net, NetError>
     ensures read { IfOk result (λ net. option_map column_net (column_at text.now) ≡ Some (net_of net)) }
     ensures refused { result ≡ Err NetError.NotThisForm → column_at text.now ≡ None }
 {
     let mut reader = Reader::new(text);
-    let (input, position) = read_input(&mut reader).ok_or(NetError::NotThisForm)?;
-    let (output, count) = read_output(&mut reader, position).ok_or(NetError::NotThisForm)?;
+    let Some((input, position)) = read_input(&mut reader) else {
+        return Err(NetError::NotThisForm);
+    };
+    let Some((output, count)) = read_output(&mut reader, position) else {
+        return Err(NetError::NotThisForm);
+    };
     let channels = read_channels(alloc, &mut reader, count)?;
     let processes = read_processes(alloc, &mut reader, position, &input, &channels, &output)?;
     let differ = links_differ(&input, &channels, &output) && processes_differ(&processes);
