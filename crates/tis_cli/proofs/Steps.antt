@@ -1,5 +1,5 @@
 -- A step of each loop that reads or places.
-use Rattle.std.proofs.Common.{◌≡◌, ℕ, zero, suc, ◌+◌, ◌-◌, ◌<◌, ◌≤◌, Bool, ◌||◌, List, [], ◌∷◌, ◌++◌, map, length, take, drop, Option, Some, None, refl, sym, ap, ◌∙◌, arith, add-one}
+use Rattle.std.proofs.Common.{◌≡◌, ℕ, zero, suc, ◌+◌, ◌-◌, ◌<◌, ◌≤◌, Bool, ◌||◌, List, [], ◌∷◌, ◌++◌, map, length, take, drop, get_or, Option, Some, None, refl, sym, ap, ◌∙◌, arith, add-one}
 use Rattle.std.specs.Prelude.{slice_get, slice_set, codes}
 use Rattle.std.specs.List.{list_any}
 use Rattle.std.proofs.lemmas.List.{drop_more, drop_all, take_more, take_all, map_push, length-map, length-take}
@@ -136,23 +136,27 @@ code_push body index statement program line found is one =
 
 -- ---- the processes of a column
 
-names_more : (channels : List held_channel.ChannelLine) (i : ℕ) (channel : held_channel.ChannelLine) (output : Name) → slice_get channels i ≡ Some channel
+-- what is left of a list, from an element of it on that was read
+drop_read : {X : Type 0} (xs : List X) (i : ℕ) (x : X) → i < length xs → x ≡ get_or xs i x → drop i xs ≡ x ∷ drop (i + 1) xs
+drop_read xs i x lt is = drop_more xs i x lt ∙ ap (λ (y : _). y ∷ drop (i + 1) xs) (sym is)
+
+names_more : (channels : List held_channel.ChannelLine) (i : ℕ) (channel : held_channel.ChannelLine) (output : Name) → i < length channels → channel ≡ get_or channels i channel
     → map channel_name (drop i channels) ++ output ∷ [] ≡ channel.name ∷ (map channel_name (drop (i + 1) channels) ++ output ∷ [])
-names_more channels i channel output found = ap (λ (left : List held_channel.ChannelLine). map channel_name left ++ output ∷ []) (drop_found channels i channel found)
+names_more channels i channel output lt is = ap (λ (left : List held_channel.ChannelLine). map channel_name left ++ output ∷ []) (drop_read channels i channel lt is)
 
 names_end : (channels : List held_channel.ChannelLine) (i : ℕ) (output : Name) → length channels ≤ i → map channel_name (drop i channels) ++ output ∷ [] ≡ output ∷ []
 names_end channels i output le = ap (λ (left : List held_channel.ChannelLine). map channel_name left ++ output ∷ []) (drop_all i channels le)
 
-pub processes_fail : (channels : List held_channel.ChannelLine) (i : ℕ) (channel : held_channel.ChannelLine) (tile : ℕ) (read output : Name) (processes : List Process) (bytes : List ℕ) → slice_get channels i ≡ Some channel
+pub processes_fail : (channels : List held_channel.ChannelLine) (i : ℕ) (channel : held_channel.ChannelLine) (tile : ℕ) (read output : Name) (processes : List Process) (bytes : List ℕ) → i < length channels → channel ≡ get_or channels i channel
     → process_at tile read channel.name bytes ≡ None → processes_at tile read (map channel_name (drop i channels) ++ output ∷ []) processes bytes ≡ None
-processes_fail channels i channel tile read output processes bytes found none =
-    ap (λ (names : List Name). processes_at tile read names processes bytes) (names_more channels i channel output found) ∙ no_process tile read channel.name _ processes bytes none
+processes_fail channels i channel tile read output processes bytes lt is none =
+    ap (λ (names : List Name). processes_at tile read names processes bytes) (names_more channels i channel output lt is) ∙ no_process tile read channel.name _ processes bytes none
 
 pub processes_more : (channels : List held_channel.ChannelLine) (i : ℕ) (channel : held_channel.ChannelLine) (tile : ℕ) (read output : Name) (processes : List Process) (bytes : List ℕ) (process : Process) (rest : List ℕ)
-    → slice_get channels i ≡ Some channel → process_at tile read channel.name bytes ≡ Some (process, rest)
+    → i < length channels → channel ≡ get_or channels i channel → process_at tile read channel.name bytes ≡ Some (process, rest)
     → processes_at tile read (map channel_name (drop i channels) ++ output ∷ []) processes bytes ≡ processes_at (tile + 4) channel.name (map channel_name (drop (i + 1) channels) ++ output ∷ []) (processes ++ process ∷ []) rest
-processes_more channels i channel tile read output processes bytes process rest found one =
-    ap (λ (names : List Name). processes_at tile read names processes bytes) (names_more channels i channel output found) ∙ one_process tile read channel.name _ processes bytes process rest one
+processes_more channels i channel tile read output processes bytes process rest lt is one =
+    ap (λ (names : List Name). processes_at tile read names processes bytes) (names_more channels i channel output lt is) ∙ one_process tile read channel.name _ processes bytes process rest one
 
 pub last_fails : (channels : List held_channel.ChannelLine) (i tile : ℕ) (read output : Name) (processes : List Process) (bytes : List ℕ) → length channels ≤ i
     → process_at tile read output bytes ≡ None → processes_at tile read (map channel_name (drop i channels) ++ output ∷ []) processes bytes ≡ None

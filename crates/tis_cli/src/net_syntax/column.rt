@@ -98,6 +98,7 @@ fn read_process(reader: &mut Reader, tile: u8, read: &Name, written: &Name) -> O
 // Reads so many channels, each pinned to go directly.
 fn read_channels(alloc: Global, reader: &mut Reader, count: u8) -> Result<Vec<ChannelLine>, NetError>
     ensures read { IfOk result (λ channels. channels_at count [] reader.old ≡ Some (map channel_name channels.items, reader.new)) }
+    ensures counted { IfOk result (λ channels. length channels.items ≡ count) }
     ensures direct { IfOk result (λ channels. map line_of channels.items ≡ map channel_of (map channel_name channels.items)) }
     ensures refused { result ≡ Err NetError.NotThisForm → channels_at count [] reader.old ≡ None }
 {
@@ -126,6 +127,7 @@ fn read_processes(
 ) -> Result<Vec<ProcessText>, NetError>
     requires { position + 4 * length channels.now < 16 }
     ensures read { IfOk result (λ processes. processes_at position input.now (map channel_name channels.now ++ output.now ∷ []) [] reader.old ≡ Some (map process_of processes.items, reader.new)) }
+    ensures counted { IfOk result (λ processes. length processes.items ≡ length channels.now + 1) }
     ensures refused { result ≡ Err NetError.NotThisForm → processes_at position input.now (map channel_name channels.now ++ output.now ∷ []) [] reader.old ≡ None }
 {
     let mut processes = Vec::new(alloc);
