@@ -39,24 +39,24 @@ unfolding other_operation_at
 other_operation_is bytes x e =
     either_step _ _ _ _ e
     (λ number number-is e1. step _ _ _ e1 (λ value value-is e2.
-      let v = value_line_is number value value-is in
-      subst (OperationIs bytes) (some_is e2) (v.0, glue (codes "sub x ") (behind_is _ _ _ number-is) v.1)))
+    let v = value_line_is number value value-is in
+    subst (OperationIs bytes) (some_is e2) (v.0, glue (codes "sub x ") (behind_is _ _ _ number-is) v.1)))
     (λ e1. either_step _ _ _ _ e1
-      (λ rest rest-is e2. subst (OperationIs bytes) (some_is e2) (tt, behind_is _ _ _ rest-is))
-      (λ e2. step _ _ _ e2 (λ rest rest-is e3. subst (OperationIs bytes) (some_is e3) (tt, behind_is _ _ _ rest-is))))
+    (λ rest rest-is e2. subst (OperationIs bytes) (some_is e2) (tt, behind_is _ _ _ rest-is))
+    (λ e2. step _ _ _ e2 (λ rest rest-is e3. subst (OperationIs bytes) (some_is e3) (tt, behind_is _ _ _ rest-is))))
 
 operation_is : (bytes : List ℕ) (x : Statement × List ℕ) → operation_at bytes ≡ Some x → OperationIs bytes x
 unfolding operation_at
 operation_is bytes x e =
     either_step _ _ _ _ e
     (λ number number-is e1. step _ _ _ e1 (λ value value-is e2.
-      let v = value_line_is number value value-is in
-      subst (OperationIs bytes) (some_is e2) (v.0, glue (codes "set x ") (behind_is _ _ _ number-is) v.1)))
+    let v = value_line_is number value value-is in
+    subst (OperationIs bytes) (some_is e2) (v.0, glue (codes "set x ") (behind_is _ _ _ number-is) v.1)))
     (λ e1. either_step _ _ _ _ e1
-      (λ number number-is e2. step _ _ _ e2 (λ value value-is e3.
-        let v = value_line_is number value value-is in
-        subst (OperationIs bytes) (some_is e3) (v.0, glue (codes "add x ") (behind_is _ _ _ number-is) v.1)))
-      (λ e2. other_operation_is bytes x e2))
+    (λ number number-is e2. step _ _ _ e2 (λ value value-is e3.
+    let v = value_line_is number value value-is in
+    subst (OperationIs bytes) (some_is e3) (v.0, glue (codes "add x ") (behind_is _ _ _ number-is) v.1)))
+    (λ e2. other_operation_is bytes x e2))
 
 -- operations were read onto the body, up to the word of a line that sends
 record OperationsAre (lines : ℕ) (body : List Statement) (bytes : List ℕ) (x : List Statement × List ℕ) : Type 0 where
@@ -73,15 +73,15 @@ operations_are (suc lines) body bytes x e =
     either_step _ _ _ _ e
     (λ rest rest-is e1. subst (OperationsAre (suc lines) body bytes) (some_is e1) (record { operations = []; onto = sym (append-nil body); few = omega arith; are = tt; text = behind_is _ _ _ rest-is }))
     (λ e1. step _ _ _ e1 (λ operation operation-is e2.
-      let o = operation_is bytes operation operation-is in
-      let more = operations_are lines (body ++ operation.0 ∷ []) operation.1 x e2 in
-      record {
-        operations = operation.0 ∷ more.operations;
-        onto = more.onto ∙ append_assoc body (operation.0 ∷ []) more.operations;
-        few = omega (arith, more.few);
-        are = (o.0, more.are);
-        text = o.1 ∙ ap (statement_text operation.0) more.text
-      }))
+    let o = operation_is bytes operation operation-is in
+    let more = operations_are lines (body ++ operation.0 ∷ []) operation.1 x e2 in
+    record {
+      operations = operation.0 ∷ more.operations;
+      onto = more.onto ∙ append_assoc body (operation.0 ∷ []) more.operations;
+      few = omega (arith, more.few);
+      are = (o.0, more.are);
+      text = o.1 ∙ ap (statement_text operation.0) more.text;
+    }))
 
 put_is : (written : Name) (bytes : List ℕ) (x : Statement × List ℕ) → put_at written bytes ≡ Some x → SendsOn written x.0 × (codes "put " ++ bytes ≡ statement_text x.0 x.1)
 unfolding put_at
@@ -93,8 +93,8 @@ put_is written bytes x e =
     either_step _ _ _ _ e2
     (λ rest rest-is e3. subst P (some_is e3) (n.0, before ∙ ap (λ (text : List ℕ). codes "put " ++ (name.0 ++ (codes " " ++ text))) (behind_is _ _ _ rest-is)))
     (λ e3. step _ _ _ e3 (λ value value-is e4.
-      let v = value_line_is sent value value-is in
-      subst P (some_is e4) ((n.0, v.0), before ∙ ap (λ (text : List ℕ). codes "put " ++ (name.0 ++ (codes " " ++ text))) v.1)))))
+    let v = value_line_is sent value value-is in
+    subst P (some_is e4) ((n.0, v.0), before ∙ ap (λ (text : List ℕ). codes "put " ++ (name.0 ++ (codes " " ++ text))) v.1)))))
 
 abbrev BodyIs : Name → Name → List ℕ → List Statement × List ℕ → Type 0
 BodyIs read written bytes x = IsBody read written x.0 × (bytes ≡ body_text x.0 x.1)
@@ -108,7 +108,7 @@ get_is read written bytes x e =
     let p = put_is written body.1 last last-is in
     let few : length (o.operations ++ last.0 ∷ []) < 15 = omega (arith, length-append o.operations (last.0 ∷ []), o.few) in
     let text : codes "get " ++ bytes ≡ statement_text (Get name.0 X) (body_text (o.operations ++ last.0 ∷ []) last.1) =
-        ap (λ (rest : List ℕ). codes "get " ++ rest) (glue name.0 n.1 (glue (codes " x\n") (behind_is _ _ _ line-is) (o.text ∙ ap (body_text o.operations) p.1 ∙ sym (body_text-append o.operations (last.0 ∷ []) last.1)))) in
+    ap (λ (rest : List ℕ). codes "get " ++ rest) (glue name.0 n.1 (glue (codes " x\n") (behind_is _ _ _ line-is) (o.text ∙ ap (body_text o.operations) p.1 ∙ sym (body_text-append o.operations (last.0 ∷ []) last.1)))) in
     let made : BodyIs read written (codes "get " ++ bytes) (Get name.0 X ∷ (o.operations ++ last.0 ∷ []), last.1) = ((n.0, (o.operations, last.0, refl, o.are, p.0), few), text) in
     let whole : body.0 ++ last.0 ∷ [] ≡ Get name.0 X ∷ (o.operations ++ last.0 ∷ []) = ap (λ (b : List Statement). b ++ last.0 ∷ []) o.onto in
     subst (BodyIs read written (codes "get " ++ bytes)) (ap (λ (b : List Statement). let y : List Statement × List ℕ = (b, last.1) in y) (sym whole) ∙ some_is e4) made))))
@@ -120,7 +120,7 @@ move_is read written bytes x e =
     let f = this_name_is read bytes from from-is in
     let t = this_name_is written blank to to-is in
     let text : codes "move " ++ bytes ≡ statement_text (Move from.0 to.0) end =
-        ap (λ (rest : List ℕ). codes "move " ++ rest) (glue from.0 f.1 (glue (codes " ") (behind_is _ _ _ blank-is) (glue to.0 t.1 (behind_is _ _ _ end-is)))) in
+    ap (λ (rest : List ℕ). codes "move " ++ rest) (glue from.0 f.1 (glue (codes " ") (behind_is _ _ _ blank-is) (glue to.0 t.1 (behind_is _ _ _ end-is)))) in
     subst (BodyIs read written (codes "move " ++ bytes)) (some_is e4) ((f.0, t.0, refl), text)))))
 
 pub body_is : (read written : Name) (bytes : List ℕ) (x : List Statement × List ℕ) → body_at read written bytes ≡ Some x → IsBody read written x.0 × (bytes ≡ body_text x.0 x.1)
@@ -249,7 +249,7 @@ got_body : (read written : Name) (body operations : List Statement) (last : Stat
 got_body read written body operations last rest is are sends few =
     let short : length operations < 14 = omega (arith, ap length is, length-append operations (last ∷ [])) in
     let text : body_text body rest ≡ body_text operations (codes "put " ++ sent_text last rest) =
-        ap (λ (b : List Statement). body_text b rest) is ∙ body_text-append operations (last ∷ []) rest ∙ ap (body_text operations) (sent written last rest sends) in
+    ap (λ (b : List Statement). body_text b rest) is ∙ body_text-append operations (last ∷ []) rest ∙ ap (body_text operations) (sent written last rest sends) in
     ap (λ (rest-text : List ℕ). body_at read written (codes "get " ++ (read ++ (codes " x\n" ++ rest-text)))) text
     ∙ got read written operations last rest are sends short
     ∙ ap (λ (b : List Statement). Some (Get read X ∷ b, rest)) (sym is)

@@ -73,8 +73,8 @@ put_compiled net taken =
     let is = taken.is_column in
     let places : column.processes ≡ placed column.position column.processes = placed_is _ _ _ _ is.in_line in
     let whole : net ≡ column_net (column_at column.position column.input column.output column.channels column.processes) =
-        taken.net_is
-        ∙ ap (λ (processes : List Process). let c : Column = record { position = column.position; input = column.input; output = column.output; channels = column.channels; processes = processes } in column_net c) places in
+    taken.net_is
+    ∙ ap (λ (processes : List Process). let c : Column = record { position = column.position; input = column.input; output = column.output; channels = column.channels; processes = processes } in column_net c) places in
     ap put whole ∙ put_placed column.position column.input column.output column.channels column.processes is.position is.some is.few ∙ sym (ap compiled whole)
 
 -- after the processes and the links were put in their turn

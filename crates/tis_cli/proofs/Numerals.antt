@@ -60,18 +60,18 @@ below_hundred n ge lt =
 below_thousand : (n : ℕ) → 100 ≤ n → n < 1000 → Digits n (decimal n)
 below_thousand n ge lt =
     let front : decimal (n / 10) ≡ (48 + n / 10 / 10) ∷ (48 + n / 10 % 10) ∷ [] =
-        decimal_step (n / 10) (omega arith) (omega arith) ∙ ap (λ (d : List ℕ). d ++ (48 + n / 10 % 10) ∷ []) (decimal_digit (n / 10 / 10) (omega arith)) in
+    decimal_step (n / 10) (omega arith) (omega arith) ∙ ap (λ (d : List ℕ). d ++ (48 + n / 10 % 10) ∷ []) (decimal_digit (n / 10 / 10) (omega arith)) in
     let text : decimal n ≡ (48 + n / 10 / 10) ∷ (48 + n / 10 % 10) ∷ (48 + n % 10) ∷ [] =
-        decimal_step n (omega arith) (omega arith) ∙ ap (λ (d : List ℕ). d ++ (48 + n % 10) ∷ []) front in
+    decimal_step n (omega arith) (omega arith) ∙ ap (λ (d : List ℕ). d ++ (48 + n % 10) ∷ []) front in
     subst (Digits n) (sym text) (three_digits n (n / 10 / 10) (n / 10 % 10) (n % 10) (omega arith) (omega arith) (omega arith) (omega arith))
 
 pub digits_of : (n : ℕ) → n < 1000 → Digits n (decimal n)
 digits_of n lt = by_size n (n / 10) (n / 100) refl refl lt
-    where
-      by_size : (n tens hundreds : ℕ) → n / 10 ≡ tens → n / 100 ≡ hundreds → n < 1000 → Digits n (decimal n)
-      by_size n zero hundreds t h lt = below_ten n (omega arith)
-      by_size n (suc tens) zero t h lt = below_hundred n (omega arith) (omega arith)
-      by_size n (suc tens) (suc hundreds) t h lt = below_thousand n (omega arith) lt
+  where
+    by_size : (n tens hundreds : ℕ) → n / 10 ≡ tens → n / 100 ≡ hundreds → n < 1000 → Digits n (decimal n)
+    by_size n zero hundreds t h lt = below_ten n (omega arith)
+    by_size n (suc tens) zero t h lt = below_hundred n (omega arith) (omega arith)
+    by_size n (suc tens) (suc hundreds) t h lt = below_thousand n (omega arith) lt
 
 -- ---- values
 
@@ -101,7 +101,7 @@ spelt_of (pos n) is =
     record {
       value = plain_number n (decimal n) digits.first.1 digits.first.0 digits.first.2 digits.value;
       all = digits.all;
-      first = (48 + digits.first.0, digits.first.1, digits.first.2, omega (arith, digits.first.3))
+      first = (48 + digits.first.0, digits.first.1, digits.first.2, omega (arith, digits.first.3));
     }
 spelt_of (negsuc n) is =
     let digits = digits_of (suc n) (omega (arith, ints, is.0)) in
@@ -142,6 +142,6 @@ pub value_is_not_x : (n : ℤ) (rest : List ℕ) → IsValue n → behind (codes
 value_is_not_x n rest is =
     let spelt = spelt_of n is in
     not_behind (codes "x\n") (signed_decimal n ++ rest) (λ more same. other_head spelt.first.0 spelt.first.1 rest more spelt.first.3 (sym (ap (λ (text : List ℕ). text ++ rest) spelt.first.2) ∙ same))
-    where
-      other_head : (head : ℕ) (tail rest more : List ℕ) → head < 58 → (head ∷ tail) ++ rest ≡ codes "x\n" ++ more → ⊥
-      other_head head tail rest more lt same = let e : head ≡ 120 = cc in omega arith
+  where
+    other_head : (head : ℕ) (tail rest more : List ℕ) → head < 58 → (head ∷ tail) ++ rest ≡ codes "x\n" ++ more → ⊥
+    other_head head tail rest more lt same = let e : head ≡ 120 = cc in omega arith

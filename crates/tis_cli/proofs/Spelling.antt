@@ -83,9 +83,9 @@ process_spelled : (name : Name) (tile : ℕ) (body : List Statement) (rest : Lis
 unfolding end_line
 process_spelled name tile body rest =
     let last : lines_text (map statement_line body ++ end_line) ++ rest ≡ body_text body (codes "end\n" ++ rest) =
-        ap (λ (text : List ℕ). text ++ rest) (lines_text-append (map statement_line body) end_line)
-        ∙ append_assoc (lines_text (map statement_line body)) (lines_text end_line) rest
-        ∙ body_spelled body (codes "end\n" ++ rest) in
+    ap (λ (text : List ℕ). text ++ rest) (lines_text-append (map statement_line body) end_line)
+    ∙ append_assoc (lines_text (map statement_line body)) (lines_text end_line) rest
+    ∙ body_spelled body (codes "end\n" ++ rest) in
     append_assoc (join_with_byte 32 (head_line name tile)) (10 ∷ lines_text (map statement_line body ++ end_line)) rest
     ∙ ap (λ (text : List ℕ). join_with_byte 32 (head_line name tile) ++ 10 ∷ text) last
     ∙ head_spelled name tile (body_text body (codes "end\n" ++ rest))
@@ -152,11 +152,11 @@ spelled c is =
     let inputs = head_lines c.input c.position in
     let p : lines_text processes ≡ processes_text c.position c.processes [] = processes_spelled c.position c.input (links_below c) c.processes is.in_line in
     let below : lines_text (channels ++ processes) ≡ channels_text c.channels (processes_text c.position c.processes []) =
-        lines_text-append channels processes ∙ ap (λ (text : List ℕ). lines_text channels ++ text) p ∙ channels_spelled c.channels (processes_text c.position c.processes []) in
+    lines_text-append channels processes ∙ ap (λ (text : List ℕ). lines_text channels ++ text) p ∙ channels_spelled c.channels (processes_text c.position c.processes []) in
     let last : lines_text (output ∷ (channels ++ processes)) ≡ output_text c.output c.position (length c.channels) (channels_text c.channels (processes_text c.position c.processes [])) =
-        ap (λ (text : List ℕ). join_with_byte 32 output ++ 10 ∷ text) below
-        ∙ ap (λ (n : ℕ). join_with_byte 32 (output_words c.output c.position n) ++ 10 ∷ channels_text c.channels (processes_text c.position c.processes [])) count
-        ∙ output_spelled c.output c.position (length c.channels) (channels_text c.channels (processes_text c.position c.processes [])) in
+    ap (λ (text : List ℕ). join_with_byte 32 output ++ 10 ∷ text) below
+    ∙ ap (λ (n : ℕ). join_with_byte 32 (output_words c.output c.position n) ++ 10 ∷ channels_text c.channels (processes_text c.position c.processes [])) count
+    ∙ output_spelled c.output c.position (length c.channels) (channels_text c.channels (processes_text c.position c.processes [])) in
     ap lines_text (append_assoc (inputs ++ output ∷ []) channels processes ∙ append_assoc inputs (output ∷ []) (channels ++ processes))
     ∙ lines_text-append inputs (output ∷ (channels ++ processes))
     ∙ ap (λ (text : List ℕ). lines_text inputs ++ text) last
@@ -175,7 +175,7 @@ input_is bytes x e =
     let n = name_is start name name-is in
     let p = position_is at position position-is in
     let text : bytes ≡ input_text name.0 position.0 end =
-        glue (codes "net 1\ntiles CCCC CCCC CCCC\ninput ") (behind_is _ _ _ start-is) (glue name.0 n.1 (glue (codes " at ") (behind_is _ _ _ at-is) (glue (decimal position.0) p.1 (behind_is _ _ _ end-is)))) in
+    glue (codes "net 1\ntiles CCCC CCCC CCCC\ninput ") (behind_is _ _ _ start-is) (glue name.0 n.1 (glue (codes " at ") (behind_is _ _ _ at-is) (glue (decimal position.0) p.1 (behind_is _ _ _ end-is)))) in
     subst (InputIs bytes) (some_is e5) (n.0, p.0, text))))))
 
 abbrev PassedIs : ℕ → List ℕ → ℕ × List ℕ → Type 0
@@ -187,11 +187,11 @@ passed_is position bytes x e =
     either_step _ _ _ _ e
     (λ rest rest-is e1. subst (PassedIs position bytes) (some_is e1) (omega arith, behind_is _ _ _ rest-is))
     (λ e1. step _ _ _ e1 (λ tiles tiles-is e2. either_step _ _ _ _ e2
-      (λ passed passed-is e3. step _ _ _ e3 (λ end end-is e4.
-        subst (PassedIs position bytes) (some_is e4) (omega arith, glue (codes " ") (behind_is _ _ _ tiles-is) (glue (decimal (position + 8)) (behind_is _ _ _ passed-is) (behind_is _ _ _ end-is)))))
-      (λ e3. step _ _ _ e3 (λ first first-is e4. step _ _ _ e4 (λ blank blank-is e5. step _ _ _ e5 (λ second second-is e6. step _ _ _ e6 (λ end end-is e7.
-        subst (PassedIs position bytes) (some_is e7)
-        (omega arith, glue (codes " ") (behind_is _ _ _ tiles-is) (glue (decimal (position + 4)) (behind_is _ _ _ first-is) (glue (codes " ") (behind_is _ _ _ blank-is) (glue (decimal (position + 8)) (behind_is _ _ _ second-is) (behind_is _ _ _ end-is))))))))))))
+    (λ passed passed-is e3. step _ _ _ e3 (λ end end-is e4.
+    subst (PassedIs position bytes) (some_is e4) (omega arith, glue (codes " ") (behind_is _ _ _ tiles-is) (glue (decimal (position + 8)) (behind_is _ _ _ passed-is) (behind_is _ _ _ end-is)))))
+    (λ e3. step _ _ _ e3 (λ first first-is e4. step _ _ _ e4 (λ blank blank-is e5. step _ _ _ e5 (λ second second-is e6. step _ _ _ e6 (λ end end-is e7.
+    subst (PassedIs position bytes) (some_is e7)
+    (omega arith, glue (codes " ") (behind_is _ _ _ tiles-is) (glue (decimal (position + 4)) (behind_is _ _ _ first-is) (glue (codes " ") (behind_is _ _ _ blank-is) (glue (decimal (position + 8)) (behind_is _ _ _ second-is) (behind_is _ _ _ end-is))))))))))))
 
 abbrev OutputIs : ℕ → List ℕ → (Name × ℕ) × List ℕ → Type 0
 OutputIs position bytes x = (is_name x.0.0 ≡ true) × (x.0.1 < 3) × (bytes ≡ output_text x.0.0 position x.0.1 x.1)
@@ -203,7 +203,7 @@ output_is position bytes x e =
     let n = name_is start name name-is in
     let p = passed_is position tiles channels channels-is in
     let text : bytes ≡ output_text name.0 position channels.0 channels.1 =
-        glue (codes "output ") (behind_is _ _ _ start-is) (glue name.0 n.1 (glue (codes " at ") (behind_is _ _ _ at-is) (glue (decimal position) (behind_is _ _ _ via-is) (glue (codes " via") (behind_is _ _ _ tiles-is) p.1)))) in
+    glue (codes "output ") (behind_is _ _ _ start-is) (glue name.0 n.1 (glue (codes " at ") (behind_is _ _ _ at-is) (glue (decimal position) (behind_is _ _ _ via-is) (glue (codes " via") (behind_is _ _ _ tiles-is) p.1)))) in
     subst (OutputIs position bytes) (some_is e6) (n.0, p.0, text)))))))
 
 channel_is : (bytes : List ℕ) (x : Name × List ℕ) → channel_at bytes ≡ Some x → (is_name x.0 ≡ true) × (bytes ≡ codes "channel " ++ (x.0 ++ (codes " via\n" ++ x.1)))
@@ -235,7 +235,7 @@ channels_are (suc count) names bytes x e =
       behind = more.behind ∙ append_assoc names (channel.0 ∷ []) more.channels;
       counted = ap (λ (n : ℕ). suc n) more.counted;
       named = All-cons IsName channel.0 more.channels c.0 more.named;
-      text = c.1 ∙ ap (λ (rest : List ℕ). codes "channel " ++ (channel.0 ++ (codes " via\n" ++ rest))) more.text
+      text = c.1 ∙ ap (λ (rest : List ℕ). codes "channel " ++ (channel.0 ++ (codes " via\n" ++ rest))) more.text;
     })
 
 process_is : (tile : ℕ) (read written : Name) (bytes : List ℕ) (x : Process × List ℕ) → process_at tile read written bytes ≡ Some x → IsStage tile read written x.0 × (bytes ≡ process_text x.0.name tile x.0.body x.1)
@@ -248,8 +248,8 @@ process_is tile read written bytes x e =
     let made : Process = record { name = name.0; at = Some tile; body = body.0 } in
     let stage : IsStage tile read written made = record { name = n.0; at = refl; body = b.0 } in
     let text : bytes ≡ process_text name.0 tile body.0 end =
-        glue (codes "process ") (behind_is _ _ _ start-is) (glue name.0 n.1 (glue (codes " at ") (behind_is _ _ _ at-is) (glue (decimal tile) (behind_is _ _ _ line-is) (glue (codes "\n") (behind_is _ _ _ first-is)
-        (b.1 ∙ ap (body_text body.0) (behind_is _ _ _ end-is)))))) in
+    glue (codes "process ") (behind_is _ _ _ start-is) (glue name.0 n.1 (glue (codes " at ") (behind_is _ _ _ at-is) (glue (decimal tile) (behind_is _ _ _ line-is) (glue (codes "\n") (behind_is _ _ _ first-is)
+    (b.1 ∙ ap (body_text body.0) (behind_is _ _ _ end-is)))))) in
     let P : Process × List ℕ → Type 0 = λ y. IsStage tile read written y.0 × (bytes ≡ process_text y.0.name tile y.0.body y.1) in
     subst P (some_is e7) (stage, text))))))))
 
@@ -272,7 +272,7 @@ processes_are tile read (written ∷ names) before bytes x e =
       processes = process.0 ∷ more.processes;
       behind = more.behind ∙ append_assoc before (process.0 ∷ []) more.processes;
       stand = (p.0, more.stand);
-      text = p.1 ∙ ap (process_text process.0.name tile process.0.body) more.text
+      text = p.1 ∙ ap (process_text process.0.name tile process.0.body) more.text;
     })
 
 whole_cases : (test : Bool) (column found : Column) → cond test (Some column) None ≡ Some found → (test ≡ true) × (column ≡ found)
@@ -302,19 +302,19 @@ column_is text column e =
     let channel_count : length made.channels ≡ output.0.1 = ap length c.behind ∙ c.counted in
     let named : All IsName made.channels = subst (All IsName) (sym c.behind) c.named in
     let is : IsColumn made =
-        record {
-          position = i.1;
-          some = omega (arith, count);
-          few = omega (arith, count, channel_count, o.1);
-          links_named = All-cons IsName made.input (links_below made) i.0 (All-append IsName made.channels (made.output ∷ []) named (All-cons IsName made.output [] o.0 (All-nil _)));
-          links_differ = d.0;
-          processes_differ = d.1;
-          in_line = stand
-        } in
+    record {
+      position = i.1;
+      some = omega (arith, count);
+      few = omega (arith, count, channel_count, o.1);
+      links_named = All-cons IsName made.input (links_below made) i.0 (All-append IsName made.channels (made.output ∷ []) named (All-cons IsName made.output [] o.0 (All-nil _)));
+      links_differ = d.0;
+      processes_differ = d.1;
+      in_line = stand;
+    } in
     let below : channels.1 ≡ processes_text input.0.1 processes.0 [] = p.text ∙ ap (λ (rest : List ℕ). processes_text input.0.1 p.processes rest) w.0 ∙ ap (λ (ps : List Process). processes_text input.0.1 ps []) (sym p.behind) in
     let between : output.1 ≡ channels_text channels.0 (processes_text input.0.1 processes.0 []) = c.text ∙ ap (channels_text c.channels) below ∙ ap (λ (names : List Name). channels_text names (processes_text input.0.1 processes.0 [])) (sym c.behind) in
     let spelt : text ≡ column_text made =
-        i.2 ∙ ap (input_text input.0.0 input.0.1) (o.2 ∙ ap (output_text output.0.0 input.0.1 output.0.1) between ∙ ap (λ (n : ℕ). output_text output.0.0 input.0.1 n (channels_text channels.0 (processes_text input.0.1 processes.0 []))) (sym channel_count)) in
+    i.2 ∙ ap (input_text input.0.0 input.0.1) (o.2 ∙ ap (output_text output.0.0 input.0.1 output.0.1) between ∙ ap (λ (n : ℕ). output_text output.0.0 input.0.1 n (channels_text channels.0 (processes_text input.0.1 processes.0 []))) (sym channel_count)) in
     subst (λ (c : Column). IsColumn c × (text ≡ net_text (column_net c))) w.2 (is, spelt ∙ sym (spelled made is))))))
 
 -- ---- what is spelled so is read
@@ -328,16 +328,23 @@ input_again name position rest named lt =
     goes_on _ (behind_again (codes "net 1\ntiles CCCC CCCC CCCC\ninput ") _) ∙ goes_on _ (name_again name 32 _ named refl) ∙ goes_on _ (behind_again (codes " at ") _)
     ∙ goes_on _ (position_again position _ lt) ∙ goes_on _ (behind_again (codes " via\n") rest)
 
+other_heads : (a b : ℕ) {xs ys : List ℕ} → (a ≡ b → ⊥) → a ∷ xs ≡ b ∷ ys → ⊥
+other_heads a b {xs} {ys} differ e = differ cc
+
 -- the tile below the one that reads isn't read as the tile below both
 other_digit : (position : ℕ) (rest more : List ℕ) → position < 4 → decimal (position + 4) ++ rest ≡ decimal (position + 8) ++ more → ⊥
 other_digit zero rest more lt same =
-    let e : (52 ∷ []) ++ rest ≡ (56 ∷ []) ++ more = ap (λ (d : List ℕ). d ++ rest) (sym (decimal_digit 4 (lit< tt))) ∙ same ∙ ap (λ (d : List ℕ). d ++ more) (decimal_digit 8 (lit< tt)) in cc
+    let e : (52 ∷ []) ++ rest ≡ (56 ∷ []) ++ more = ap (λ (d : List ℕ). d ++ rest) (sym (decimal_digit 4 (lit< tt))) ∙ same ∙ ap (λ (d : List ℕ). d ++ more) (decimal_digit 8 (lit< tt)) in
+    other_heads 52 56 (λ same-heads. omega arith) e
 other_digit (suc zero) rest more lt same =
-    let e : (53 ∷ []) ++ rest ≡ (57 ∷ []) ++ more = ap (λ (d : List ℕ). d ++ rest) (sym (decimal_digit 5 (lit< tt))) ∙ same ∙ ap (λ (d : List ℕ). d ++ more) (decimal_digit 9 (lit< tt)) in cc
+    let e : (53 ∷ []) ++ rest ≡ (57 ∷ []) ++ more = ap (λ (d : List ℕ). d ++ rest) (sym (decimal_digit 5 (lit< tt))) ∙ same ∙ ap (λ (d : List ℕ). d ++ more) (decimal_digit 9 (lit< tt)) in
+    other_heads 53 57 (λ same-heads. omega arith) e
 other_digit (suc (suc zero)) rest more lt same =
-    let e : (54 ∷ []) ++ rest ≡ (49 ∷ 48 ∷ []) ++ more = ap (λ (d : List ℕ). d ++ rest) (sym (decimal_digit 6 (lit< tt))) ∙ same ∙ ap (λ (d : List ℕ). d ++ more) (two_digits 10 1 0 (lit≤ tt) (lit< tt) refl refl (lit< tt)) in cc
+    let e : (54 ∷ []) ++ rest ≡ (49 ∷ 48 ∷ []) ++ more = ap (λ (d : List ℕ). d ++ rest) (sym (decimal_digit 6 (lit< tt))) ∙ same ∙ ap (λ (d : List ℕ). d ++ more) (two_digits 10 1 0 (lit≤ tt) (lit< tt) refl refl (lit< tt)) in
+    other_heads 54 49 (λ same-heads. omega arith) e
 other_digit (suc (suc (suc zero))) rest more lt same =
-    let e : (55 ∷ []) ++ rest ≡ (49 ∷ 49 ∷ []) ++ more = ap (λ (d : List ℕ). d ++ rest) (sym (decimal_digit 7 (lit< tt))) ∙ same ∙ ap (λ (d : List ℕ). d ++ more) (two_digits 11 1 1 (lit≤ tt) (lit< tt) refl refl (lit< tt)) in cc
+    let e : (55 ∷ []) ++ rest ≡ (49 ∷ 49 ∷ []) ++ more = ap (λ (d : List ℕ). d ++ rest) (sym (decimal_digit 7 (lit< tt))) ∙ same ∙ ap (λ (d : List ℕ). d ++ more) (two_digits 11 1 1 (lit≤ tt) (lit< tt) refl refl (lit< tt)) in
+    other_heads 55 49 (λ same-heads. omega arith) e
 other_digit (suc (suc (suc (suc position)))) rest more lt same = absurd (omega arith)
 
 passed_again : (position channels : ℕ) (rest : List ℕ) → position < 4 → channels < 3 → passed_at position (passed_text position channels rest) ≡ Some (channels, rest)

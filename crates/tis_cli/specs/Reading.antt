@@ -38,6 +38,7 @@ behind expected bytes = if bytes_eq (take (length expected) bytes) expected then
 abbrev pub name_run : List ℕ → List ℕ
 name_run bytes = take_while is_name_byte bytes
 
+-- the name that stands in front
 unfoldable pub name_at : List ℕ → Option (Name × List ℕ)
 name_at bytes = if is_name (name_run bytes) then Some (name_run bytes, drop (length (name_run bytes)) bytes) else None
 
@@ -96,37 +97,37 @@ value_line_at bytes = do
 unfoldable pub other_operation_at : List ℕ → Option (Statement × List ℕ)
 other_operation_at bytes =
     either (behind (codes "sub x ") bytes)
-        (λ number. do
-          value ← value_line_at number
-          Some (Sub X value.0, value.1))
-        (either (behind (codes "neg x\n") bytes)
-            (λ rest. Some (Neg X, rest))
-            (do
-              rest ← behind (codes "double x\n") bytes
-              Some (Double X, rest)))
+    (λ number. do
+      value ← value_line_at number
+      Some (Sub X value.0, value.1))
+    (either (behind (codes "neg x\n") bytes)
+    (λ rest. Some (Neg X, rest))
+    (do
+      rest ← behind (codes "double x\n") bytes
+      Some (Double X, rest)))
 
 -- the line of a statement that computes
 unfoldable pub operation_at : List ℕ → Option (Statement × List ℕ)
 operation_at bytes =
     either (behind (codes "set x ") bytes)
-        (λ number. do
-          value ← value_line_at number
-          Some (Set X value.0, value.1))
-        (either (behind (codes "add x ") bytes)
-            (λ number. do
-              value ← value_line_at number
-              Some (Add X value.0, value.1))
-            (other_operation_at bytes))
+    (λ number. do
+      value ← value_line_at number
+      Some (Set X value.0, value.1))
+    (either (behind (codes "add x ") bytes)
+    (λ number. do
+      value ← value_line_at number
+      Some (Add X value.0, value.1))
+    (other_operation_at bytes))
 
 -- less than so many lines that compute, up to the word of one that sends, onto these statements
 unfoldable pub operations_at : ℕ → List Statement → List ℕ → Option (List Statement × List ℕ)
 operations_at zero body bytes = None
 operations_at (suc lines) body bytes =
     either (behind (codes "put ") bytes)
-        (λ rest. Some (body, rest))
-        (do
-          operation ← operation_at bytes
-          operations_at lines (body ++ operation.0 ∷ []) operation.1)
+    (λ rest. Some (body, rest))
+    (do
+      operation ← operation_at bytes
+      operations_at lines (body ++ operation.0 ∷ []) operation.1)
 
 -- what follows the word of a line that sends on this name
 unfoldable pub put_at : Name → List ℕ → Option (Statement × List ℕ)
@@ -161,10 +162,10 @@ move_at read written bytes = do
 unfoldable pub body_at : Name → Name → List ℕ → Option (List Statement × List ℕ)
 body_at read written bytes =
     either (behind (codes "move ") bytes)
-        (λ rest. move_at read written rest)
-        (do
-          rest ← behind (codes "get ") bytes
-          get_at read written rest)
+    (λ rest. move_at read written rest)
+    (do
+      rest ← behind (codes "get ") bytes
+      get_at read written rest)
 
 -- ---- lines of a network
 
@@ -182,19 +183,19 @@ input_at bytes = do
 unfoldable pub passed_at : ℕ → List ℕ → Option (ℕ × List ℕ)
 passed_at position bytes =
     either (behind (codes "\n") bytes)
-        (λ rest. Some (2, rest))
-        (do
-          tiles ← behind (codes " ") bytes
-          either (behind (decimal (position + 8)) tiles)
-              (λ passed. do
-                end ← behind (codes "\n") passed
-                Some (1, end))
-              (do
-                first ← behind (decimal (position + 4)) tiles
-                blank ← behind (codes " ") first
-                second ← behind (decimal (position + 8)) blank
-                end ← behind (codes "\n") second
-                Some (0, end)))
+    (λ rest. Some (2, rest))
+    (do
+      tiles ← behind (codes " ") bytes
+      either (behind (decimal (position + 8)) tiles)
+          (λ passed. do
+            end ← behind (codes "\n") passed
+            Some (1, end))
+          (do
+            first ← behind (decimal (position + 4)) tiles
+            blank ← behind (codes " ") first
+            second ← behind (decimal (position + 8)) blank
+            end ← behind (codes "\n") second
+            Some (0, end)))
 
 -- what is read of the output's line, at this position: its name, and how many channels there are
 unfoldable pub output_at : ℕ → List ℕ → Option ((Name × ℕ) × List ℕ)
@@ -256,6 +257,7 @@ all_differ (name ∷ names) = not (is_among name names) && all_differ names
 abbrev pub links_differ : Name → List Name → Name → Bool
 links_differ input channels output = (not (is_among input (output ∷ channels)) && not (is_among output channels)) && all_differ channels
 
+-- the names of the processes, in order
 abbrev pub process_names : List Process → List Name
 process_names processes = map (λ process. process.name) processes
 

@@ -21,18 +21,23 @@ statement_of (held_as.Sub var number) = Sub X number
 statement_of (held_as.Neg var) = Neg X
 statement_of (held_as.Double var) = Double X
 
+-- the statements of a body, in order
 abbrev pub statements_of : List held.Statement → List Statement
 statements_of body = map statement_of body
 
+-- an input or an output as it is held
 abbrev pub port_of : held_port.PortLine → PortLine
 port_of port = record { name = port.name; position = port.position; via = port.via }
 
+-- a channel as it is held
 abbrev pub line_of : held_channel.ChannelLine → ChannelLine
 line_of channel = record { name = channel.name; via = channel.via }
 
+-- a process as it is held
 abbrev pub process_of : held_process.ProcessText → Process
 process_of process = record { name = process.name; at = process.at; body = statements_of process.body }
 
+-- the name of a channel
 abbrev pub channel_name : held_channel.ChannelLine → Name
 channel_name channel = channel.name
 

@@ -4,9 +4,9 @@
 mod command;
 mod net_emit;
 mod net_syntax;
+mod run;
 mod status;
 mod tis_save;
-mod run;
 
-pub use status::{Refusal, Status, describe};
 pub use run::tool;
+pub use status::{Refusal, Status, describe};

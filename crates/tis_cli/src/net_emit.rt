@@ -18,7 +18,10 @@ fn instr_of(statement: &Statement) -> Instr
     match statement {
         Statement::Get(..) => Instr::Mov(Source::Port(Dir::Up), Dest::Acc),
         Statement::Put(..) => Instr::Mov(Source::Acc, Dest::Port(Dir::Down)),
-        Statement::PutNumber(_, number) => Instr::Mov(Source::Number(*number), Dest::Port(Dir::Down)),
+        Statement::PutNumber(_, number) => Instr::Mov(
+            Source::Number(*number),
+            Dest::Port(Dir::Down),
+        ),
         Statement::Move(..) => Instr::Mov(Source::Port(Dir::Up), Dest::Port(Dir::Down)),
         Statement::Set(_, number) => Instr::Mov(Source::Number(*number), Dest::Acc),
         Statement::Add(_, number) => Instr::Add(Source::Number(*number)),

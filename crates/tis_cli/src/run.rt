@@ -50,7 +50,12 @@ fn perform<S: Store>(alloc: Global, command: Command, store: &mut S) -> Status
 /// `compile NET SAVE` fetches the text under the name NET, and keeps the canonical save of the
 /// network that it is under the name SAVE. Other words are no command. The words are looked at
 /// first, then the name, then the text.
-pub fn tool<S: Store, K: Sink>(alloc: Global, words: &[String], store: &mut S, out: &mut K) -> Status
+pub fn tool<S: Store, K: Sink>(
+    alloc: Global,
+    words: &[String],
+    store: &mut S,
+    out: &mut K,
+) -> Status
     // The words are no command exactly where the answer says so, and then nothing was fetched.
     ensures words { (result ≡ Status.Words) ↔ (command_of (words_of words.now) ≡ None) }
     ensures words_touch_nothing { result ≡ Status.Words → store.new ≡ store.old }

@@ -9,7 +9,12 @@ use tis_base::{NoMemory, Tile, TileKind, push_number};
 
 // Writes the block of a program behind what is there: its head, its code and an empty line. It
 // writes nothing for the empty program.
-fn push_block(alloc: Global, out: &mut Vec<u8>, block: u8, program: &Program) -> Result<(), NoMemory>
+fn push_block(
+    alloc: Global,
+    out: &mut Vec<u8>,
+    block: u8,
+    program: &Program,
+) -> Result<(), NoMemory>
     ensures { OnOk result (out.new.items ≡ out.old.items ++ block_text (64 ∷ decimal block) program.now) }
 {
     if program.is_empty() {

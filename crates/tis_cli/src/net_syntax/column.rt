@@ -96,7 +96,11 @@ fn read_process(reader: &mut Reader, tile: u8, read: &Name, written: &Name) -> O
 }
 
 // Reads so many channels, each pinned to go directly.
-fn read_channels(alloc: Global, reader: &mut Reader, count: u8) -> Result<Vec<ChannelLine>, NetError>
+fn read_channels(
+    alloc: Global,
+    reader: &mut Reader,
+    count: u8,
+) -> Result<Vec<ChannelLine>, NetError>
     ensures read { IfOk result (λ channels. channels_at count [] reader.old ≡ Some (map channel_name channels.items, reader.new)) }
     ensures counted { IfOk result (λ channels. length channels.items ≡ count) }
     ensures direct { IfOk result (λ channels. map line_of channels.items ≡ map channel_of (map channel_name channels.items)) }

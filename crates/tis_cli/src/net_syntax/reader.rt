@@ -28,7 +28,10 @@ impl<'a> Model for Reader<'a> {
 fn name_length(bytes: &[u8]) -> usize
     ensures { result ≡ length (name_run bytes.now) }
 {
-    bytes.iter().take_while(|byte| can_stand_in_name(**byte)).count()
+    bytes
+        .iter()
+        .take_while(|byte| can_stand_in_name(**byte))
+        .count()
 }
 
 // How many bytes stand before the end of the line.

@@ -7,5 +7,5 @@ abbrev pub invariant-loop-port : goal.invariant-loop-port
 invariant-loop-port l =
     record {
       board : l.programs.tiles ≡ l.initial.programs.tiles;
-      same : with_links (map port_of l.ports) l.initial.programs.programs ≡ with_links (map port_of (drop l.port-index l.ports)) l.programs.programs
+      same : with_links (map port_of l.ports) l.initial.programs.programs ≡ with_links (map port_of (drop l.port-index l.ports)) l.programs.programs;
     }

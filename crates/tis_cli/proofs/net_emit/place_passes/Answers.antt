@@ -13,8 +13,8 @@ loop-index-preserved c =
     record {
       board = ap (λ (l : Listing). l.tiles) c.set.ensures ∙ c.loop-index.invariant.board;
       same =
-        c.loop-index.invariant.same
-        ∙ passes_more c.args.path.now c.loop-index.index c.at-number.result c.loop-index.programs.programs c.at-number.ensures
-        ∙ ap (λ (program : List Line). after (slice_set c.loop-index.programs.programs c.at-number.result program)) (sym c.pass_program.ensures)
-        ∙ ap after (sym put)
+          c.loop-index.invariant.same
+          ∙ passes_more c.args.path.now c.loop-index.index c.at-number.result c.loop-index.programs.programs c.at-number.ensures
+          ∙ ap (λ (program : List Line). after (slice_set c.loop-index.programs.programs c.at-number.result program)) (sym c.pass_program.ensures)
+          ∙ ap after (sym put);
     }

@@ -6,5 +6,5 @@ abbrev pub invariant-loop-index : goal.invariant-loop-index
 invariant-loop-index l =
     record {
       board : l.programs.tiles ≡ l.initial.programs.tiles;
-      same : with_passes l.path l.initial.programs.programs ≡ with_passes (drop l.index l.path) l.programs.programs
+      same : with_passes l.path l.initial.programs.programs ≡ with_passes (drop l.index l.path) l.programs.programs;
     }

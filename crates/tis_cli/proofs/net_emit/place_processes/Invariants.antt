@@ -7,5 +7,5 @@ abbrev pub invariant-loop-process : goal.invariant-loop-process
 invariant-loop-process l =
     record {
       board : l.programs.tiles ≡ l.initial.programs.tiles;
-      same : with_processes (map process_of l.processes) l.initial.programs.programs ≡ with_processes (map process_of (drop l.process-index l.processes)) l.programs.programs
+      same : with_processes (map process_of l.processes) l.initial.programs.programs ≡ with_processes (map process_of (drop l.process-index l.processes)) l.programs.programs;
     }

@@ -1,8 +1,4 @@
-use Rattle.std.proofs.Common.{◌≡◌, ◌<◌, ◌∷◌, [], ◌++◌, List, false, map, take, length, sym, ap, ◌∙◌, arith}
-use Rattle.std.proofs.lemmas.List.{map_push}
-use Rattle.tis_asm.specs.declared.program.Line.{Line}
-use Rattle.tis_cli.specs.Compiled.{code_of, statement_code}
-use Rattle.tis_cli.specs.Tree.{statement_of, statements_of}
+use Rattle.std.proofs.Common.{◌≡◌, ◌<◌, ◌∷◌, [], ◌++◌, false, length, ◌∙◌, arith}
 use Rattle.tis_cli.proofs.Steps.{code_push, code_length}
 use Rattle.tis_cli.proofs.net_emit.program_of.Goals as goal
 

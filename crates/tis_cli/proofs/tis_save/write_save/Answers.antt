@@ -13,13 +13,13 @@ loop-number-preserved c =
     let kind : slice_get listing.tiles.kinds tile ≡ Some c.kind.result = rw (← c.tiles-tiles.ensures.tiles) c.kind.ensures in
     record {
       written =
-        c.in_ok-push_block.ensures
-        ∙ ap (λ (text : List ℕ). text ++ block_text (64 ∷ decimal c.loop-number.block) c.of.result.now) c.loop-number.invariant.written
-        ∙ ap (λ (text : List ℕ). flat_map (tile_text listing) (range_with_len 0 tile) ++ text) (written_block listing tile c.loop-number.block c.of.result.now c.of.ensures c.loop-number.invariant.block)
-        ∙ sym (flat_map-range_more (tile_text listing) tile);
+          c.in_ok-push_block.ensures
+          ∙ ap (λ (text : List ℕ). text ++ block_text (64 ∷ decimal c.loop-number.block) c.of.result.now) c.loop-number.invariant.written
+          ∙ ap (λ (text : List ℕ). flat_map (tile_text listing) (range_with_len 0 tile) ++ text) (written_block listing tile c.loop-number.block c.of.result.now c.of.ensures c.loop-number.invariant.block)
+          ∙ sym (flat_map-range_more (tile_text listing) tile);
       block =
-        c.block_after-block.ensures
-        ∙ ap (λ (block : ℕ). block + cond (is_compute c.kind.result) 1 0) c.loop-number.invariant.block
-        ∙ sym (block_of-next listing.tiles tile c.kind.result kind);
-      small = at_most_one_more (is_compute c.kind.result) _ _ _ c.block_after-block.ensures c.loop-number.invariant.small
+          c.block_after-block.ensures
+          ∙ ap (λ (block : ℕ). block + cond (is_compute c.kind.result) 1 0) c.loop-number.invariant.block
+          ∙ sym (block_of-next listing.tiles tile c.kind.result kind);
+      small = at_most_one_more (is_compute c.kind.result) _ _ _ c.block_after-block.ensures c.loop-number.invariant.small;
     }

@@ -1,4 +1,4 @@
-use Rattle.std.proofs.Common.{◌≡◌, ◌≤◌, count_by, take}
+use Rattle.std.proofs.Common.{◌≡◌, ◌≤◌}
 use Rattle.std.specs.Prelude.{flat_map}
 use Rattle.std.specs.List.{range_with_len}
 use Rattle.tis_base.specs.Tiles.{block_of}
@@ -10,5 +10,5 @@ invariant-loop-number l =
     record {
       written : l.out.items ≡ flat_map (tile_text l.programs) (range_with_len 0 l.number);
       block : l.block ≡ block_of l.programs.tiles l.number;
-      small : l.block ≤ l.number
+      small : l.block ≤ l.number;
     }

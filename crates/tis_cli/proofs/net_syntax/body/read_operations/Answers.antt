@@ -1,4 +1,4 @@
-use Rattle.std.proofs.Common.{rules, ◌≡◌, ◌∷◌, [], ◌++◌, ◌+◌, ◌-◌, List, length, sym, ap, ◌∙◌, arith}
+use Rattle.std.proofs.Common.{◌≡◌, ◌∷◌, [], ◌++◌, ◌+◌, ◌-◌, List, length, sym, ap, ◌∙◌, arith}
 use Rattle.std.proofs.lemmas.List.{map_push, length_push}
 use Rattle.tis_cli.specs.Net.{Statement}
 use Rattle.tis_cli.specs.Reading.{operation_at, operations_at}
@@ -21,9 +21,9 @@ loop-line-preserved c =
     record {
       count = ap length pushed ∙ length_push _ _ ∙ omega arith;
       same =
-        c.loop-line.invariant.same
-        ∙ operations_more _ _ _ _ _ c.loop-line-test.true c.if-passes.ensures.elsewhere (ap operation_at (sym c.if-passes.ensures.stays) ∙ c.in_ok-operation.ensures)
-        ∙ ap (λ (body : List Statement). operations_at (14 - (c.loop-line._line + 1)) body c.read_operation.new.reader) (sym (ap statements_of pushed ∙ map_push statement_of _ _))
+          c.loop-line.invariant.same
+          ∙ operations_more _ _ _ _ _ c.loop-line-test.true c.if-passes.ensures.elsewhere (ap operation_at (sym c.if-passes.ensures.stays) ∙ c.in_ok-operation.ensures)
+          ∙ ap (λ (body : List Statement). operations_at (14 - (c.loop-line._line + 1)) body c.read_operation.new.reader) (sym (ap statements_of pushed ∙ map_push statement_of _ _));
     }
 
 pub returns-clause-reads : goal.returns-clause-reads

@@ -7,5 +7,5 @@ abbrev pub invariant-loop-line : goal.invariant-loop-line
 invariant-loop-line l =
     record {
       count : length l.body ≡ l._line + 1;
-      same : operations_at 14 (statement_of l.fn.first ∷ []) l.initial.reader ≡ operations_at (14 - l._line) (statements_of l.body) l.reader
+      same : operations_at 14 (statement_of l.fn.first ∷ []) l.initial.reader ≡ operations_at (14 - l._line) (statements_of l.body) l.reader;
     }

@@ -9,5 +9,5 @@ invariant-loop-channel l =
     record {
       same : channels_at l.count [] l.initial.reader ≡ channels_at (l.count - l._channel) (map channel_name l.channels.items) l.reader;
       count : length l.channels.items ≡ l._channel;
-      direct : map line_of l.channels.items ≡ map channel_of (map channel_name l.channels.items)
+      direct : map line_of l.channels.items ≡ map channel_of (map channel_name l.channels.items);
     }

@@ -9,6 +9,6 @@ invariant-loop-channel l =
       tile : l.tile ≡ l.position + 4 * l.channel-index;
       count : length l.processes.items ≡ l.channel-index;
       same :
-        processes_at l.position l.input (map channel_name l.channels ++ l.output ∷ []) [] l.initial.reader
-        ≡ processes_at l.tile l.read (map channel_name (drop l.channel-index l.channels) ++ l.output ∷ []) (map process_of l.processes.items) l.reader
+          processes_at l.position l.input (map channel_name l.channels ++ l.output ∷ []) [] l.initial.reader
+          ≡ processes_at l.tile l.read (map channel_name (drop l.channel-index l.channels) ++ l.output ∷ []) (map process_of l.processes.items) l.reader;
     }
