@@ -8,7 +8,7 @@ use Rattle.tis_cli.specs.Net.{Net}
 use Rattle.tis_cli.specs.NetText.{net_text}
 use Rattle.tis_cli.specs.Column.{Column, NetOf, column_net}
 use Rattle.tis_cli.specs.Reading.{column_at}
-use Rattle.tis_cli.specs.Tree.{net_of, IsTaken}
+use Rattle.tis_cli.specs.Tree.{net_of}
 use Rattle.tis_cli.proofs.Spelling.{column_is, column_again}
 
 -- the network of a column that was read is that of the text
@@ -32,7 +32,3 @@ pub refused_net : (text : List ℕ) → column_at text ≡ None → (net : Net) 
 refused_net text none net of =
     let read : column_at text ≡ Some of.column = ap column_at (of.text_is ∙ ap net_text of.net_is) ∙ column_again of.column of.is_column in
     never_read of.column (sym none ∙ read)
-
--- the network of a text is of the form
-pub taken_net : (text : List ℕ) (net : Net) → NetOf text net → IsTaken net
-taken_net text net of = record { column = of.column; is_column = of.is_column; net_is = of.net_is }
