@@ -11,7 +11,7 @@ ghost use Rattle.tis_cli.specs.Outcomes.{words_of, ended, Explains, ExplainsComm
 use crate::command::{Command, read_words};
 use crate::net_emit::emit;
 use crate::net_syntax::read_net;
-use crate::status::{Refusal, Status};
+use crate::status::Status;
 use crate::tis_save::write_save;
 use std::alloc::Global;
 use tis_base::{Sink, Store};
