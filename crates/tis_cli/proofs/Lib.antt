@@ -1,7 +1,7 @@
 pub mod Parts
 pub mod Steps
 pub mod Numerals
-pub mod Bodies
+pub mod BodyLines
 pub mod Distinct
 pub mod Spelling
 pub mod Found

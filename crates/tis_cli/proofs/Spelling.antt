@@ -11,7 +11,7 @@ use Rattle.tis_cli.specs.NetText.{Words, statement_line, process_lines, channel_
 use Rattle.tis_cli.specs.Column.{Column, IsColumn, IsBody, IsStage, StandInLine, channel_of, column_net, links_below, tiles_below}
 use Rattle.tis_cli.specs.Reading.{followed_by, either, behind, name_at, position_at, input_at, passed_at, output_at, channel_at, channels_at, process_at, processes_at, links_differ, all_differ, process_names, whole, column_at}
 use Rattle.tis_cli.proofs.Parts.{step, goes_on, glue, some_is, both_held, either_step, there, elsewhere, not_behind, behind_is, behind_again, name_is, name_again, position_is, position_again}
-use Rattle.tis_cli.proofs.Bodies.{statement_text, body_text, body_is, body_again}
+use Rattle.tis_cli.proofs.BodyLines.{statement_text, body_text, body_is, body_again}
 use Rattle.tis_cli.proofs.Distinct.{All-first, All-others, All-front, All-last, columns_differ, differ_again}
 
 -- ---- the text
