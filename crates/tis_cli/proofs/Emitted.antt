@@ -1,39 +1,107 @@
 -- The programs of a column, tile by tile.
-use Rattle.std.proofs.Common.{◌≡◌, ℕ, zero, suc, ◌+◌, ◌<◌, List, [], length, replicate, set, refl, ap, arith}
+use Rattle.std.proofs.Common.{◌≡◌, ℕ, zero, suc, ◌+◌, ◌*◌, ◌<◌, ◌≤◌, List, [], ◌∷◌, ◌++◌, map, length, replicate, get_or, Option, Some, refl, sym, ap, subst, ◌∙◌, arith}
+use Rattle.std.specs.Prelude.{All, IfSome}
+use Rattle.std.proofs.lemmas.List.{length-map}
+use Rattle.std.proofs.lemmas.List.Elements.{All-cons, All-nil}
 use Rattle.tis_base.specs.Tiles.{Board}
 use Rattle.tis_asm.specs.declared.program.Line.{Line}
 use Rattle.tis_asm.specs.Listing.{Listing}
-use Rattle.tis_cli.specs.Column.{Column, column_net, plain_board}
-use Rattle.tis_cli.specs.Compiled.{pass_code, compiled}
-use Rattle.tis_cli.specs.Net.{Name}
+use Rattle.tis_cli.specs.declared.net_syntax.tree.ProcessText as held_process
+use Rattle.tis_cli.specs.declared.net_syntax.tree.PortLine as held_port
+use Rattle.tis_cli.specs.declared.net_syntax.tree.Net as held_net
+use Rattle.tis_cli.specs.Net.{Name, Process, Net}
+use Rattle.tis_cli.specs.Column.{Column, IsColumn, IsStage, StandInLine, column_net, links_below, plain_board}
+use Rattle.tis_cli.specs.Compiled.{compiled}
+use Rattle.tis_cli.specs.Emission.{with_processes, with_links}
+use Rattle.tis_cli.specs.Tree.{port_of, process_of, net_of, IsTaken}
 
--- the programs with three of them set
-abbrev three : ℕ → List (List Line)
-three top = set (set (set (replicate 12 []) top pass_code) (top + 4) pass_code) (top + 8) pass_code
+-- the processes, each with the tile that it stands on
+abbrev placed : ℕ → List Process → List Process
+placed tile [] = []
+placed tile (process ∷ processes) = record { name = process.name; at = Some tile; body = process.body } ∷ placed (tile + 4) processes
 
-abbrev at_place : ℕ → Name → Name → Name → Column
-at_place top input output process = record { position = top; input = input; output = output; process = process }
+placed_is : (tile : ℕ) (read : Name) (names : List Name) (processes : List Process) → StandInLine tile read names processes → processes ≡ placed tile processes
+placed_is tile read [] [] stand = refl
+placed_is tile read (written ∷ names) (process ∷ processes) stand =
+    ap (λ (at : Option ℕ). let p : Process = record { name = process.name; at = at; body = process.body } in p ∷ processes) stand.0.at
+    ∙ ap (λ (ps : List Process). let p : Process = record { name = process.name; at = Some tile; body = process.body } in p ∷ ps) (placed_is (tile + 4) written names processes stand.1)
+placed_is tile read [] (process ∷ processes) stand = absurd stand
+placed_is tile read (written ∷ names) [] stand = absurd stand
 
-emitted : (top : ℕ) (input output process : Name) → top < 4 → record { tiles = plain_board; programs = three top } ≡ compiled (column_net (at_place top input output process))
-emitted zero input output process lt = refl
-emitted (suc zero) input output process lt = refl
-emitted (suc (suc zero)) input output process lt = refl
-emitted (suc (suc (suc zero))) input output process lt = refl
-emitted (suc (suc (suc (suc top)))) input output process lt = absurd (omega arith)
+-- the programs that are put on the tiles of a network
+abbrev pub put : Net → Listing
+put net = record { tiles = net.tiles; programs = with_links net.outputs (with_processes net.processes (replicate (length net.tiles.kinds) [])) }
 
--- the empty program on each tile
-abbrev all_empty : Board → Listing
-all_empty board = record { tiles = board; programs = replicate (length board.kinds) [] }
+abbrev column_at : ℕ → Name → Name → List Name → List Process → Column
+column_at position input output channels processes = record { position = position; input = input; output = output; channels = channels; processes = placed position processes }
 
-pub empty_on : (board : Board) → board ≡ plain_board → all_empty board ≡ all_empty plain_board
-empty_on board is = ap all_empty is
+one : (position : ℕ) (input output : Name) (channels : List Name) (first : Process) → position < 4 → let column : Column = column_at position input output channels (first ∷ []) in put (column_net column) ≡ compiled (column_net column)
+one zero input output channels first lt = refl
+one (suc zero) input output channels first lt = refl
+one (suc (suc zero)) input output channels first lt = refl
+one (suc (suc (suc zero))) input output channels first lt = refl
+one (suc (suc (suc (suc position)))) input output channels first lt = absurd (omega arith)
 
--- after each program was set in its turn
-pub emit_is : (column : Column) (first second third fourth : Listing) (one two three : List Line) → column.position < 4
-    → first ≡ record { tiles = plain_board; programs = replicate 12 [] }
-    → second ≡ record first { programs = set first.programs column.position one } → one ≡ pass_code
-    → third ≡ record second { programs = set second.programs (column.position + 4) two } → two ≡ pass_code
-    → fourth ≡ record third { programs = set third.programs (column.position + 8) three } → three ≡ pass_code
-    → fourth ≡ compiled (column_net column)
-emit_is column first second third fourth one two three lt e1 e2 k1 e3 k2 e4 k3 =
-    rw (e4, e3, e2, e1, k1, k2, k3) (emitted column.position column.input column.output column.process lt)
+two : (position : ℕ) (input output : Name) (channels : List Name) (first second : Process) → position < 4 → let column : Column = column_at position input output channels (first ∷ second ∷ []) in put (column_net column) ≡ compiled (column_net column)
+two zero input output channels first second lt = refl
+two (suc zero) input output channels first second lt = refl
+two (suc (suc zero)) input output channels first second lt = refl
+two (suc (suc (suc zero))) input output channels first second lt = refl
+two (suc (suc (suc (suc position)))) input output channels first second lt = absurd (omega arith)
+
+three : (position : ℕ) (input output : Name) (channels : List Name) (first second third : Process) → position < 4
+    → let column : Column = column_at position input output channels (first ∷ second ∷ third ∷ []) in put (column_net column) ≡ compiled (column_net column)
+three zero input output channels first second third lt = refl
+three (suc zero) input output channels first second third lt = refl
+three (suc (suc zero)) input output channels first second third lt = refl
+three (suc (suc (suc zero))) input output channels first second third lt = refl
+three (suc (suc (suc (suc position)))) input output channels first second third lt = absurd (omega arith)
+
+-- one to three processes that stand down a column
+put_placed : (position : ℕ) (input output : Name) (channels : List Name) (processes : List Process) → position < 4 → 0 < length processes → length processes ≤ 3
+    → let column : Column = column_at position input output channels processes in put (column_net column) ≡ compiled (column_net column)
+put_placed position input output channels [] lt some few = absurd (omega arith)
+put_placed position input output channels (first ∷ []) lt some few = one position input output channels first lt
+put_placed position input output channels (first ∷ second ∷ []) lt some few = two position input output channels first second lt
+put_placed position input output channels (first ∷ second ∷ third ∷ []) lt some few = three position input output channels first second third lt
+put_placed position input output channels (first ∷ second ∷ third ∷ fourth ∷ more) lt some few = absurd (omega arith)
+
+-- what is put on the tiles of a network of the form is what it is compiled to
+pub put_compiled : (net : Net) → IsTaken net → put net ≡ compiled net
+put_compiled net taken =
+    let column = taken.column in
+    let is = taken.is_column in
+    let places : column.processes ≡ placed column.position column.processes = placed_is _ _ _ _ is.in_line in
+    let whole : net ≡ column_net (column_at column.position column.input column.output column.channels column.processes) =
+    taken.net_is
+    ∙ ap (λ (processes : List Process). let c : Column = record { position = column.position; input = column.input; output = column.output; channels = column.channels; processes = processes } in column_net c) places in
+    ap put whole ∙ put_placed column.position column.input column.output column.channels column.processes is.position is.some is.few ∙ sym (ap compiled whole)
+
+-- after the processes and the links were put in their turn
+pub put_is : (net : held_net.Net) (processes : List held_process.ProcessText) (outputs : List held_port.PortLine) (first second third : Listing)
+    → first ≡ record { tiles = net.tiles; programs = replicate (length net.tiles.kinds) [] }
+    → processes ≡ net.processes.items → second ≡ record first { programs = with_processes (map process_of processes) first.programs }
+    → outputs ≡ net.outputs.items → third ≡ record second { programs = with_links (map port_of outputs) second.programs }
+    → third ≡ put (net_of net)
+put_is net processes outputs first second third e1 p e2 o e3 = rw (e3, e2, e1, p, o) refl
+
+-- ---- the tiles
+
+stand_on_board : (tile : ℕ) (read : Name) (names : List Name) (processes : List held_process.ProcessText) → StandInLine tile read names (map process_of processes) → tile + 4 * length processes < 16
+    → All (λ process. IfSome process.at (λ at. at < 12)) processes
+stand_on_board tile read [] [] stand lt = All-nil _
+stand_on_board tile read (written ∷ names) (process ∷ processes) stand lt =
+    let P : held_process.ProcessText → Type 0 = λ p. IfSome p.at (λ at. at < 12) in
+    let low : tile < 12 = omega arith in
+    All-cons P process processes (rw stand.0.at low) (stand_on_board (tile + 4) written names processes stand.1 (omega arith))
+stand_on_board tile read [] (process ∷ processes) stand lt = absurd stand
+stand_on_board tile read (written ∷ names) [] stand lt = All-nil _
+
+-- the processes of a network of the form stand on the board
+pub processes_on_board : (net : Net) (processes : List held_process.ProcessText) → IsTaken net → net.processes ≡ map process_of processes → All (λ process. IfSome process.at (λ at. at < 12)) processes
+processes_on_board net processes taken same =
+    let column = taken.column in
+    let is = taken.is_column in
+    let these : column.processes ≡ map process_of processes = sym (ap (λ (n : Net). n.processes) taken.net_is) ∙ same in
+    let count : length column.processes ≡ length processes = ap length these ∙ length-map processes process_of in
+    stand_on_board column.position column.input (links_below column) processes (subst (StandInLine column.position column.input (links_below column)) these is.in_line) (omega (arith, is.position, is.few))

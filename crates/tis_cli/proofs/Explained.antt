@@ -3,11 +3,14 @@ use Rattle.std.proofs.Common.{◌≡◌, ℕ, List, Option, Some, None, option_m
 use Rattle.std.specs.Prelude.{IfSome, Ok}
 use Rattle.tis_base.specs.Outside.{Texts, text_at, with_text}
 use Rattle.tis_cli.specs.declared.status.Refusal.TheVariants.{NotThisForm}
+use Rattle.tis_cli.specs.declared.net_syntax.tree.NetError.{NetError}
+use Rattle.tis_cli.specs.declared.net_syntax.tree.NetError.TheVariants as unread
+use Rattle.tis_cli.specs.Commands.{net_status}
 use Rattle.tis_cli.specs.Net.{Net}
 use Rattle.tis_cli.specs.Column.{column_net, NetOf}
 use Rattle.tis_cli.specs.Compiled.{compiled}
 use Rattle.tis_cli.specs.Saves.{save_text, save_of}
-use Rattle.tis_cli.specs.Outcomes.{IsRefused, Saved}
+use Rattle.tis_cli.specs.Outcomes.{IsRefused, Saved, Explains}
 use Rattle.tis_cli.proofs.Columns.{net_carries}
 use Rattle.tis_cli.proofs.ColumnPrograms.{column_is_listing, column_values}
 use Rattle.tis_cli.proofs.SavesReadBack.{saves_read_back}
@@ -47,3 +50,9 @@ saved_explained told between new name save text seen bytes net fetched same of w
       reads_back = net_reads_back text net is_net;
       carries = net_carries text net is_net;
     }
+
+-- a text that was fetched and isn't read as a network
+pub unread_explained : (told new : Option Texts) (name save text seen : List ℕ) (error : NetError) → IfSome told (λ texts. text_at texts name ≡ Some text) → seen ≡ text
+    → (error ≡ unread.NotThisForm → (net : Net) → NetOf seen net → ⊥) → Explains told name save (net_status error) new
+unread_explained told new name save text seen unread.NotThisForm fetched same none = refusal_explained told name text seen fetched same (none refl)
+unread_explained told new name save text seen unread.NoMemory fetched same none = tt

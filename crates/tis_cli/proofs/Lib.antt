@@ -1,4 +1,8 @@
 pub mod Parts
+pub mod Steps
+pub mod Numerals
+pub mod BodyLines
+pub mod Distinct
 pub mod Spelling
 pub mod Found
 pub mod Blocks

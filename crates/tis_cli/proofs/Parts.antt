@@ -9,7 +9,7 @@ use Rattle.std.proofs.lemmas.List.{take_at, drop_at, take-append-drop}
 use Rattle.std.proofs.lemmas.List.Sums.{take_while-cons}
 use Rattle.std.proofs.lemmas.Slice.Eq.{bytes_eq-Decides}
 use Rattle.tis_cli.specs.Net.{Name, is_name, is_name_byte}
-use Rattle.tis_cli.specs.Reading.{followed_by, behind, name_run, name_at, position_at}
+use Rattle.tis_cli.specs.Reading.{followed_by, either, behind, this_name_at, name_run, name_at, position_at}
 
 -- what follows from what each step of a reading gave
 pub step : {A B : Type 0} {P : Type 0} (read : Option A) (next : A → Option B) (y : B) → followed_by read next ≡ Some y → ((x : A) → read ≡ Some x → next x ≡ Some y → P) → P
@@ -36,6 +36,24 @@ pub both_held : (a b : Bool) → (a && b) ≡ true → (a ≡ true) × (b ≡ tr
 both_held true b e = (refl, e)
 both_held false b e = absurd cc
 
+pub some_is : {A : Type 0} {x y : A} → Some x ≡ Some y → x ≡ y
+some_is e = cc
+
+-- what follows from what was read on either way
+pub either_step : {B : Type 0} {P : Type 0} (read : Option (List ℕ)) (there : List ℕ → Option B) (otherwise : Option B) (y : B) → either read there otherwise ≡ Some y
+    → ((rest : List ℕ) → read ≡ Some rest → there rest ≡ Some y → P) → (otherwise ≡ Some y → P) → P
+unfolding either
+either_step None there otherwise y e here else = else e
+either_step (Some rest) there otherwise y e here else = here rest refl e
+
+pub there : {B : Type 0} {read : Option (List ℕ)} {rest : List ℕ} (next : List ℕ → Option B) (otherwise : Option B) → read ≡ Some rest → either read next otherwise ≡ next rest
+unfolding either
+there next otherwise e = rw e refl
+
+pub elsewhere : {B : Type 0} {read : Option (List ℕ)} (next : List ℕ → Option B) (otherwise : Option B) → read ≡ None → either read next otherwise ≡ otherwise
+unfolding either
+elsewhere next otherwise e = rw e refl
+
 -- ---- exact bytes
 
 pub behind_is : (expected bytes rest : List ℕ) → behind expected bytes ≡ Some rest → bytes ≡ expected ++ rest
@@ -50,9 +68,28 @@ unfolding behind
 behind_again expected rest =
     rw (take_at expected rest (length expected) refl, (bytes_eq-Decides expected expected).1 refl, drop_at expected rest (length expected) refl) refl
 
+-- bytes that begin otherwise
+pub not_behind : (expected bytes : List ℕ) → ((rest : List ℕ) → bytes ≡ expected ++ rest → ⊥) → behind expected bytes ≡ None
+not_behind expected bytes never =
+    elim (behind expected bytes) as (λ (found : Option (List ℕ)). behind expected bytes ≡ found → found ≡ None) [
+      | None ↦ λ is. refl
+      | Some rest ↦ λ is. absurd (never rest (behind_is expected bytes rest is))
+    ] refl
+
+-- exactly this name
+pub this_name_is : (expected : Name) (bytes : List ℕ) (x : Name × List ℕ) → this_name_at expected bytes ≡ Some x → (x.0 ≡ expected) × (bytes ≡ x.0 ++ x.1)
+unfolding this_name_at
+this_name_is expected bytes x e =
+    step _ _ _ e (λ rest rest-is e1.
+    subst (λ (y : Name × List ℕ). (y.0 ≡ expected) × (bytes ≡ y.0 ++ y.1)) (some_is e1) (refl, behind_is _ _ _ rest-is))
+
+pub this_name_again : (name : Name) (rest : List ℕ) → this_name_at name (name ++ rest) ≡ Some (name, rest)
+unfolding this_name_at
+this_name_again name rest = goes_on _ (behind_again name rest)
+
 -- ---- names
 
-run_then_rest : (p : ℕ → Bool) (bytes : List ℕ) → take_while p bytes ++ drop (length (take_while p bytes)) bytes ≡ bytes
+pub run_then_rest : (p : ℕ → Bool) (bytes : List ℕ) → take_while p bytes ++ drop (length (take_while p bytes)) bytes ≡ bytes
 run_then_rest p [] = refl
 run_then_rest p (byte ∷ bytes) =
     rw (take_while-cons p byte bytes)
@@ -61,7 +98,7 @@ run_then_rest p (byte ∷ bytes) =
       | false ↦ refl
     ])
 
-run_again : (p : ℕ → Bool) (run : List ℕ) (byte : ℕ) (rest : List ℕ) → list_all p run ≡ true → p byte ≡ false → take_while p (run ++ byte ∷ rest) ≡ run
+pub run_again : (p : ℕ → Bool) (run : List ℕ) (byte : ℕ) (rest : List ℕ) → list_all p run ≡ true → p byte ≡ false → take_while p (run ++ byte ∷ rest) ≡ run
 run_again p [] byte rest all ends = rw (take_while-cons p byte rest, ends) refl
 run_again p (first ∷ run) byte rest all ends =
     let held = both_held (p first) (list_all p run) all in

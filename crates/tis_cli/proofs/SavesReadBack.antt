@@ -18,7 +18,7 @@ use Rattle.tis_asm.specs.Code.{line_text}
 use Rattle.tis_asm.specs.Assembling.{is_blank, assembled_lines}
 use Rattle.tis_asm.proofs.ReadingBack.{lines_read_back}
 use Rattle.tis_cli.specs.Saves.{SaveRefusal, StrayCode, head_of, save_text, is_head, computes, is_head_on, head_fault, code_fault, line_fault, first_fault, block_lines, in_block, tile_program, with_program, programs_of, listing_of, save_of_lines, save_of, SavesReadBack}
-use Rattle.tis_cli.proofs.Spelling.{not_same}
+use Rattle.tis_cli.proofs.Distinct.{not_alike}
 use Rattle.tis_cli.proofs.SaveLines.{body_of, section_of, tile_section, is_code, body_is_code, heads_differ, no_program, has_program, sections-lines}
 
 -- ---- lists of lines
@@ -32,14 +32,14 @@ no_head_in_code : (head : List ℕ) (code : List (List ℕ)) → is_head head �
 no_head_in_code head [] is all = refl
 no_head_in_code head (line ∷ code) is all =
     let parts = and_parts (is_code line) (list_all is_code code) all in
-    or_from (bytes_eq head line) (list_any (bytes_eq head) code) (not_same head line (λ same. code_is_no_head line head parts.0 is (sym same))) (no_head_in_code head code is parts.1)
+    or_from (bytes_eq head line) (list_any (bytes_eq head) code) (not_alike head line (λ same. code_is_no_head line head parts.0 is (sym same))) (no_head_in_code head code is parts.1)
 
 -- a block isn't looked for among lines of code
 skip_code : (head : List ℕ) (code rest : List (List ℕ)) → is_head head ≡ true → list_all is_code code ≡ true → block_lines head (code ++ rest) ≡ block_lines head rest
 skip_code head [] rest is all = refl
 skip_code head (line ∷ code) rest is all =
     let parts = and_parts (is_code line) (list_all is_code code) all in
-    ap (λ (same : Bool). cond same (take_while is_code (code ++ rest)) (block_lines head (code ++ rest))) (not_same line head (code_is_no_head line head parts.0 is)) ∙ skip_code head code rest is parts.1
+    ap (λ (same : Bool). cond same (take_while is_code (code ++ rest)) (block_lines head (code ++ rest))) (not_alike line head (code_is_no_head line head parts.0 is)) ∙ skip_code head code rest is parts.1
 
 -- code goes on to the next head
 take_while-code : (code rest : List (List ℕ)) → list_all is_code code ≡ true → take_while is_code (code ++ rest) ≡ code ++ take_while is_code rest
@@ -61,7 +61,7 @@ skip_section : (head other : List ℕ) (program : List Line) (rest : List (List 
     block_lines head (section_of other program ++ rest) ≡ block_lines head rest
 skip_section head other [] rest is differ = refl
 skip_section head other (line ∷ program) rest is differ =
-    ap (λ (same : Bool). cond same (take_while is_code ((map line_text (line ∷ program) ++ [] ∷ []) ++ rest)) (block_lines head ((map line_text (line ∷ program) ++ [] ∷ []) ++ rest))) (not_same other head (differ line program refl))
+    ap (λ (same : Bool). cond same (take_while is_code ((map line_text (line ∷ program) ++ [] ∷ []) ++ rest)) (block_lines head ((map line_text (line ∷ program) ++ [] ∷ []) ++ rest))) (not_alike other head (differ line program refl))
     ∙ skip_code head (map line_text (line ∷ program) ++ [] ∷ []) rest is (body_is_code line program)
 
 -- a block under this head is found whole
@@ -164,7 +164,7 @@ module _ (listing : Listing) (small : length listing.tiles.kinds < 2 ^ 64) (is :
       ∙ or_from (list_any (bytes_eq (head_at tile)) (above ++ head_at start ∷ [])) (list_any (bytes_eq (head_at tile)) (map line_text (line ∷ program) ++ [] ∷ []))
       (list_any-append (bytes_eq (head_at tile)) above (head_at start ∷ [])
       ∙ or_from (list_any (bytes_eq (head_at tile)) above) (list_any (bytes_eq (head_at tile)) (head_at start ∷ [])) (fresh tile (omega arith) inside computing)
-      (or_from (bytes_eq (head_at tile) (head_at start)) false (not_same (head_at tile) (head_at start) (apart tile start inside start_inside computing start_computes (λ e. omega arith))) refl))
+      (or_from (bytes_eq (head_at tile) (head_at start)) false (not_alike (head_at tile) (head_at start) (apart tile start inside start_inside computing start_computes (λ e. omega arith))) refl))
       (no_head_in_code (head_at tile) (map line_text (line ∷ program) ++ [] ∷ []) refl (body_is_code line program))
 
   -- nothing is wrong with the lines of a block, below others

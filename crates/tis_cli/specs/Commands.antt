@@ -3,6 +3,8 @@ use Rattle.std.specs.Prelude.{ℕ, List, [], ◌∷◌, ◌++◌, Option, Some, 
 use Rattle.std.specs.Str.{bytes_eq}
 use Rattle.tis_base.specs.declared.store.StoreError.{StoreError}
 use Rattle.tis_base.specs.declared.store.StoreError.TheVariants as fault
+use Rattle.tis_cli.specs.declared.net_syntax.tree.NetError.{NetError}
+use Rattle.tis_cli.specs.declared.net_syntax.tree.NetError.TheVariants as unread
 use Rattle.tis_cli.specs.declared.status.Status.{Status}
 use Rattle.tis_cli.specs.declared.status.Status.TheVariants.{Done, Words, Refused, Missing, StoreFault, SinkFault, NoMemory}
 use Rattle.tis_cli.specs.declared.status.Refusal.{Refusal}
@@ -45,3 +47,8 @@ abbrev pub store_status : StoreError → Status
 store_status fault.Missing = Missing
 store_status fault.Failed = StoreFault
 store_status fault.NoMemory = NoMemory
+
+-- the status that a text that isn't read as a network ends a command with
+abbrev pub net_status : NetError → Status
+net_status unread.NotThisForm = Refused NotThisForm
+net_status unread.NoMemory = NoMemory

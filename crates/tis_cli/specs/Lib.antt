@@ -2,7 +2,9 @@ pub mod Net
 pub mod NetText
 pub mod Column
 pub mod Reading
+pub mod Tree
 pub mod Compiled
+pub mod Emission
 pub mod Saves
 pub mod Commands
 pub mod Process

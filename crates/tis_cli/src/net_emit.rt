@@ -1,24 +1,45 @@
 //! The programs of a network.
-ghost use Rattle.std.specs.Prelude.{◌≡◌, ◌<◌, ◌+◌, ◌∷◌, [], IfOk};
+ghost use Rattle.std.specs.Prelude.{◌≡◌, ◌<◌, ◌+◌, ◌∷◌, [], false, map, All, IfOk, IfSome};
 ghost use Rattle.tis_base.specs.Tiles.{Board};
-ghost use Rattle.tis_cli.specs.Column.{plain_board, column_net};
-ghost use Rattle.tis_cli.specs.Compiled.{pass_code, compiled};
-ghost use Rattle.tis_cli.specs.Reading.{column_of};
+ghost use Rattle.tis_cli.specs.Column.{plain_board};
+ghost use Rattle.tis_cli.specs.Compiled.{pass_code, statement_code, code_of, compiled};
+ghost use Rattle.tis_cli.specs.Emission.{put_on, with_processes, with_passes, with_links};
+ghost use Rattle.tis_cli.specs.Tree.{statement_of, statements_of, port_of, process_of, net_of, IsTaken};
 
-use crate::net_syntax::Column;
+use crate::net_syntax::{Block, Net, Path, PortLine, ProcessText, Statement};
 use std::alloc::Global;
 use tis_asm::{Dest, Instr, Program, Programs, Source};
-use tis_base::{Dir, NoMemory, Shape, Tile, TileKind, Tiles};
+use tis_base::{Dir, NoMemory, Tile};
 
-// Four columns and three rows of compute tiles.
-fn plain_tiles() -> Tiles
-    ensures { result ≡ plain_board }
+// The instruction of a statement.
+fn instr_of(statement: &Statement) -> Instr
+    ensures { record { instr = result; mark = false } ≡ statement_code (statement_of statement.now) }
 {
-    let shape = Shape {
-        columns: 4,
-        rows: 3,
-    };
-    Tiles::new(shape, &[TileKind::Compute; 12]).unwrap()
+    match statement {
+        Statement::Get(..) => Instr::Mov(Source::Port(Dir::Up), Dest::Acc),
+        Statement::Put(..) => Instr::Mov(Source::Acc, Dest::Port(Dir::Down)),
+        Statement::PutNumber(_, number) => Instr::Mov(
+            Source::Number(*number),
+            Dest::Port(Dir::Down),
+        ),
+        Statement::Move(..) => Instr::Mov(Source::Port(Dir::Up), Dest::Port(Dir::Down)),
+        Statement::Set(_, number) => Instr::Mov(Source::Number(*number), Dest::Acc),
+        Statement::Add(_, number) => Instr::Add(Source::Number(*number)),
+        Statement::Sub(_, number) => Instr::Sub(Source::Number(*number)),
+        Statement::Neg(_) => Instr::Neg,
+        Statement::Double(_) => Instr::Add(Source::Acc),
+    }
+}
+
+// The program of a process: an instruction for each statement.
+fn program_of(body: &Block) -> Program
+    ensures { result ≡ code_of (statements_of body.now) }
+{
+    let mut program = Program::new();
+    for index in 0..body.len() {
+        program.push(instr_of(body.at(index)), false);
+    }
+    program
 }
 
 // The program that passes each value on, from above to below.
@@ -27,20 +48,65 @@ fn pass_program() -> Program
 {
     let mut program = Program::new();
     let down = Instr::Mov(Source::Port(Dir::Up), Dest::Port(Dir::Down));
-    let _pushed = program.push(down, false);
+    program.push(down, false);
     program
 }
 
-/// The programs that carry the network: the code of its process, and a `MOV` on each tile that its
-/// output passes.
-pub fn emit(alloc: Global, net: &Column) -> Result<Programs, NoMemory>
-    requires { net.now.position < 4 }
-    ensures { IfOk result (λ programs. programs ≡ compiled (column_net (column_of net.now))) }
+// Puts the program of a process on its tile.
+fn place_process(programs: &mut Programs, process: &ProcessText)
+    requires board { programs.old.tiles ≡ plain_board }
+    requires on_board { IfSome process.now.at (λ tile. tile < 12) }
+    ensures { programs.new ≡ record programs.old { programs = put_on process.now.at (code_of (statements_of process.now.body)) programs.old.programs } }
 {
-    let mut programs = Programs::empty(alloc, plain_tiles())?;
-    let top = net.position;
-    programs.set(Tile { number: top }, pass_program());
-    programs.set(Tile { number: top + 4 }, pass_program());
-    programs.set(Tile { number: top + 8 }, pass_program());
+    if let Some(number) = process.at {
+        programs.set(Tile { number }, program_of(&process.body));
+    }
+}
+
+// Puts the programs of the processes on their tiles.
+fn place_processes(programs: &mut Programs, processes: &[ProcessText])
+    requires board { programs.old.tiles ≡ plain_board }
+    requires on_board { All (λ process. IfSome process.at (λ tile. tile < 12)) processes.now }
+    ensures { programs.new ≡ record programs.old { programs = with_processes (map process_of processes.now) programs.old.programs } }
+{
+    for process in processes {
+        place_process(programs, process);
+    }
+}
+
+// Puts a program that passes values on each tile of the path.
+fn place_passes(programs: &mut Programs, path: &Path)
+    requires board { programs.old.tiles ≡ plain_board }
+    requires on_board { All (λ tile. tile < 12) path.now }
+    ensures { programs.new ≡ record programs.old { programs = with_passes path.now programs.old.programs } }
+{
+    for index in 0..path.len() {
+        let number = path.at(index);
+        programs.set(Tile { number }, pass_program());
+    }
+}
+
+// Puts a program that passes values on each tile that these links pass.
+fn place_links(programs: &mut Programs, ports: &[PortLine])
+    requires board { programs.old.tiles ≡ plain_board }
+    requires on_board { All (λ port. IfSome port.via (All (λ tile. tile < 12))) ports.now }
+    ensures { programs.new ≡ record programs.old { programs = with_links (map port_of ports.now) programs.old.programs } }
+{
+    for port in ports {
+        if let Some(path) = &port.via {
+            place_passes(programs, path);
+        }
+    }
+}
+
+/// The programs that carry the network: the code of each process on its tile, and a `MOV` on each
+/// tile that its output passes.
+pub fn emit(alloc: Global, net: &Net) -> Result<Programs, NoMemory>
+    requires { IsTaken (net_of net.now) }
+    ensures { IfOk result (λ programs. programs ≡ compiled (net_of net.now)) }
+{
+    let mut programs = Programs::empty(alloc, net.tiles)?;
+    place_processes(&mut programs, &net.processes);
+    place_links(&mut programs, &net.outputs);
     Ok(programs)
 }

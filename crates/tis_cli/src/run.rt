@@ -11,7 +11,7 @@ ghost use Rattle.tis_cli.specs.Outcomes.{words_of, ended, Explains, ExplainsComm
 use crate::command::{Command, read_words};
 use crate::net_emit::emit;
 use crate::net_syntax::read_net;
-use crate::status::{Refusal, Status};
+use crate::status::Status;
 use crate::tis_save::write_save;
 use std::alloc::Global;
 use tis_base::{Sink, Store};
@@ -24,10 +24,8 @@ fn compile<S: Store>(alloc: Global, net: &str, save: &str, store: &mut S) -> Res
     ensures fault_counted { IsErrOf result Status.StoreFault → Rose (S.faults store.old) (S.faults store.new) }
 {
     let text = store.fetch(alloc, net)?;
-    let Some(column) = read_net(&text) else {
-        return Err(Status::Refused(Refusal::NotThisForm));
-    };
-    let programs = emit(alloc, &column)?;
+    let tree = read_net(alloc, &text)?;
+    let programs = emit(alloc, &tree)?;
     let bytes = write_save(alloc, &programs)?;
     store.keep(save, &bytes)?;
     Ok(())

@@ -1,6 +1,7 @@
 //! How the program ends.
 ghost use Rattle.std.specs.Prelude.{◌≡◌, IfOk};
 
+use crate::net_syntax::NetError;
 use std::alloc::Global;
 use tis_base::{NoMemory, StoreError};
 
@@ -73,6 +74,20 @@ impl From<StoreError> for Status {
             StoreError::Missing => Status::Missing,
             StoreError::Failed => Status::StoreFault,
             StoreError::NoMemory => Status::NoMemory,
+        }
+    }
+}
+
+impl From<NetError> for Status {
+    ghost use Rattle.std.specs.Prelude.{◌≡◌};
+    ghost use Rattle.tis_cli.specs.Commands.{net_status};
+
+    ghost from_gives = { λ error status. status ≡ net_status error };
+
+    fn from(error: NetError) -> Self {
+        match error {
+            NetError::NotThisForm => Status::Refused(Refusal::NotThisForm),
+            NetError::NoMemory => Status::NoMemory,
         }
     }
 }

@@ -1,6 +1,7 @@
 //! Names of a network.
 ghost use Rattle.std.specs.Prelude.{◌≡◌, ◌↔◌, IsSome, IfSome};
 ghost use Rattle.std.specs.List.{list_all};
+ghost use Rattle.std.specs.Str.{bytes_eq};
 ghost use Rattle.tis_cli.specs.Net.{IsName, is_name, is_name_byte, begins_with_letter as starts_with_letter};
 
 use arrayvec::ArrayVec;
@@ -79,5 +80,19 @@ impl Name {
         ensures named { IsName self.now }
     {
         self.text.as_slice()
+    }
+
+    /// The same name again.
+    pub fn copied(&self) -> Name
+        ensures { result ≡ self.now }
+    {
+        Name::new(self.bytes()).unwrap()
+    }
+
+    /// Whether the names are the same.
+    pub fn is(&self, other: &Name) -> bool
+        ensures { result ≡ bytes_eq self.now other.now }
+    {
+        self.bytes() == other.bytes()
     }
 }

@@ -1,9 +1,12 @@
-use Rattle.std.proofs.Common.{◌∙◌}
-use Rattle.tis_cli.specs.Reading.{column_of}
-use Rattle.tis_cli.proofs.Emitted.{emit_is, empty_on}
+use Rattle.std.proofs.Common.{map, ap, sym, ◌∙◌}
+use Rattle.tis_cli.specs.Tree.{process_of, net_of}
+use Rattle.tis_cli.proofs.Emitted.{put_is, put_compiled, processes_on_board}
 use Rattle.tis_cli.proofs.net_emit.emit.Goals as goal
+
+pub place_processes-requires-clause-on_board : goal.place_processes-requires-clause-on_board
+place_processes-requires-clause-on_board c = processes_on_board (net_of c.args.net.now) c.deref.result.now c.requires (ap (map process_of) (sym c.deref.ensures.value))
 
 pub returns : goal.returns
 returns c =
-    emit_is (column_of c.args.net.now) c.in_ok-programs.programs c.set.new.self c.set-2.new.self c.set-3.new.self c.pass_program.result c.pass_program-2.result c.pass_program-3.result c.requires
-    (c.in_ok-programs.ensures ∙ empty_on c.plain_tiles.result c.plain_tiles.ensures) c.set.ensures c.pass_program.ensures c.set-2.ensures c.pass_program-2.ensures c.set-3.ensures c.pass_program-3.ensures
+    put_is c.args.net.now c.deref.result.now c.deref-2.result.now _ _ _ c.in_ok-programs.ensures c.deref.ensures.value c.place_processes.ensures c.deref-2.ensures.value c.place_links.ensures
+    ∙ put_compiled (net_of c.args.net.now) c.requires
