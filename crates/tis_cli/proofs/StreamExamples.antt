@@ -70,8 +70,8 @@ two_processes =
       output = o;
       channels = c ∷ [];
       processes =
-        record { name = codes "p"; at = Some 2; body = Get a X ∷ Double X ∷ Put c X ∷ [] }
-        ∷ record { name = codes "q"; at = Some 6; body = Get c X ∷ Sub X (pos 1) ∷ Put o X ∷ [] } ∷ [];
+          record { name = codes "p"; at = Some 2; body = Get a X ∷ Double X ∷ Put c X ∷ [] }
+          ∷ record { name = codes "q"; at = Some 6; body = Get c X ∷ Sub X (pos 1) ∷ Put o X ∷ [] } ∷ [];
     })
 
 one_behind_the_other : kahn_at two_processes (record { position = 2; values = pos 5 ∷ negsuc 599 ∷ [] } ∷ []) 2 ≡ pos 9 ∷ negsuc 998 ∷ []
