@@ -1,11 +1,11 @@
 -- The text of what a process does, line by line: what is read is spelled so, and what is spelled so is read.
-use Rattle.std.proofs.Common.{◌≡◌, ℕ, zero, suc, ◌+◌, ◌<◌, ◌≤◌, List, [], ◌∷◌, ◌++◌, length, Option, Some, None, refl, sym, ap, subst, ◌∙◌, append_assoc, arith}
+use Rattle.std.proofs.Common.{◌≡◌, ℕ, zero, suc, ◌<◌, List, [], ◌∷◌, ◌++◌, length, Some, None, refl, sym, ap, subst, ◌∙◌, append_assoc, arith}
 use Rattle.std.specs.Prelude.{codes, ℤ}
 use Rattle.std.specs.Fmt.{signed_decimal}
 use Rattle.std.proofs.lemmas.List.{append-nil, length-append}
 use Rattle.tis_cli.specs.Net.{Name, X, Statement, Get, Put, PutNumber, Move, Set, Add, Sub, Neg, Double}
-use Rattle.tis_cli.specs.Column.{IsOperation, AreOperations, SendsOn, ComputesAndSends, IsBody}
-use Rattle.tis_cli.specs.Reading.{followed_by, either, behind, this_name_at, value_line_at, other_operation_at, operation_at, operations_at, put_at, get_at, move_at, body_at}
+use Rattle.tis_cli.specs.Column.{IsOperation, AreOperations, SendsOn, IsBody}
+use Rattle.tis_cli.specs.Reading.{behind, other_operation_at, operation_at, operations_at, put_at, get_at, move_at, body_at}
 use Rattle.tis_cli.proofs.Parts.{step, goes_on, glue, some_is, either_step, there, elsewhere, behind_is, behind_again, this_name_is, this_name_again}
 use Rattle.tis_cli.proofs.Numerals.{value_line_is, value_line_again, value_is_not_x}
 

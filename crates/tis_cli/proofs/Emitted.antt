@@ -1,16 +1,14 @@
 -- The programs of a column, tile by tile.
-use Rattle.std.proofs.Common.{◌≡◌, ℕ, zero, suc, ◌+◌, ◌*◌, ◌<◌, ◌≤◌, List, [], ◌∷◌, ◌++◌, map, length, replicate, get_or, Option, Some, refl, sym, ap, subst, ◌∙◌, arith}
+use Rattle.std.proofs.Common.{◌≡◌, ℕ, zero, suc, ◌+◌, ◌*◌, ◌<◌, ◌≤◌, List, [], ◌∷◌, map, length, replicate, Option, Some, refl, sym, ap, subst, ◌∙◌, arith}
 use Rattle.std.specs.Prelude.{All, IfSome}
 use Rattle.std.proofs.lemmas.List.{length-map}
 use Rattle.std.proofs.lemmas.List.Elements.{All-cons, All-nil}
-use Rattle.tis_base.specs.Tiles.{Board}
-use Rattle.tis_asm.specs.declared.program.Line.{Line}
 use Rattle.tis_asm.specs.Listing.{Listing}
 use Rattle.tis_cli.specs.declared.net_syntax.tree.ProcessText as held_process
 use Rattle.tis_cli.specs.declared.net_syntax.tree.PortLine as held_port
 use Rattle.tis_cli.specs.declared.net_syntax.tree.Net as held_net
 use Rattle.tis_cli.specs.Net.{Name, Process, Net}
-use Rattle.tis_cli.specs.Column.{Column, IsColumn, IsStage, StandInLine, column_net, links_below, plain_board}
+use Rattle.tis_cli.specs.Column.{Column, StandInLine, column_net, links_below}
 use Rattle.tis_cli.specs.Compiled.{compiled}
 use Rattle.tis_cli.specs.Emission.{with_processes, with_links}
 use Rattle.tis_cli.specs.Tree.{port_of, process_of, net_of, IsTaken}

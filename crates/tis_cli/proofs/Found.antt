@@ -3,7 +3,6 @@ use Rattle.std.proofs.Common.{◌≡◌, ℕ, List, Option, Some, None, Result, 
 use Rattle.std.specs.Prelude.{IfOk}
 use Rattle.tis_cli.specs.declared.net_syntax.tree.Net as held_net
 use Rattle.tis_cli.specs.declared.net_syntax.tree.NetError.{NetError}
-use Rattle.tis_cli.specs.declared.net_syntax.tree.NetError.TheVariants.{NotThisForm, NoMemory}
 use Rattle.tis_cli.specs.Net.{Net}
 use Rattle.tis_cli.specs.NetText.{net_text}
 use Rattle.tis_cli.specs.Column.{Column, NetOf, column_net}

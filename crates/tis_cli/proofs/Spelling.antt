@@ -1,16 +1,16 @@
 -- The text of a column, part by part: what is read is spelled so, and what is spelled so is read.
-use Rattle.std.proofs.Common.{◌≡◌, ◌≢◌, ℕ, zero, suc, ◌+◌, ◌/◌, ◌%◌, ◌^◌, ◌<◌, ◌≤◌, Bool, true, false, cond, not, List, [], ◌∷◌, ◌++◌, map, length, get_or, Option, Some, None, refl, sym, ap, subst, ◌∙◌, append_assoc, arith, lit<, lit≤}
-use Rattle.std.specs.Prelude.{codes, decimal, flat_map, ◌&&◌, All, AllPairs}
+use Rattle.std.proofs.Common.{◌≡◌, ℕ, zero, suc, ◌+◌, ◌/◌, ◌%◌, ◌^◌, ◌<◌, ◌≤◌, Bool, true, false, cond, List, [], ◌∷◌, ◌++◌, map, length, Option, Some, None, refl, sym, ap, subst, ◌∙◌, append_assoc, arith, lit<, lit≤}
+use Rattle.std.specs.Prelude.{codes, decimal, flat_map, ◌&&◌, All}
 use Rattle.std.specs.List.{join_with_byte}
 use Rattle.std.proofs.lemmas.Fmt.{decimal_digit, decimal_step}
-use Rattle.std.proofs.lemmas.List.{append-nil, length-append, length-map}
+use Rattle.std.proofs.lemmas.List.{append-nil, length-append}
 use Rattle.std.proofs.lemmas.List.Elements.{All-cons, All-nil, All-append}
 use Rattle.tis_base.specs.Lines.{text_of_lines}
 use Rattle.tis_cli.specs.Net.{Name, IsName, is_name, X, Statement, Get, Put, PutNumber, Move, Set, Add, Sub, Neg, Double, Process}
 use Rattle.tis_cli.specs.NetText.{Words, statement_line, process_lines, channel_line, net_text}
 use Rattle.tis_cli.specs.Column.{Column, IsColumn, IsBody, IsStage, StandInLine, channel_of, column_net, links_below, tiles_below}
-use Rattle.tis_cli.specs.Reading.{followed_by, either, behind, name_at, position_at, input_at, passed_at, output_at, channel_at, channels_at, process_at, processes_at, links_differ, all_differ, process_names, whole, column_at}
-use Rattle.tis_cli.proofs.Parts.{step, goes_on, glue, some_is, both_held, either_step, there, elsewhere, not_behind, behind_is, behind_again, name_is, name_again, position_is, position_again}
+use Rattle.tis_cli.specs.Reading.{behind, input_at, passed_at, output_at, channel_at, channels_at, process_at, processes_at, links_differ, all_differ, process_names, whole, column_at}
+use Rattle.tis_cli.proofs.Parts.{step, goes_on, glue, some_is, either_step, there, elsewhere, not_behind, behind_is, behind_again, name_is, name_again, position_is, position_again}
 use Rattle.tis_cli.proofs.BodyLines.{statement_text, body_text, body_is, body_again}
 use Rattle.tis_cli.proofs.Distinct.{All-first, All-others, All-front, All-last, columns_differ, differ_again}
 

@@ -1,17 +1,17 @@
 -- A step of each loop that reads or places.
-use Rattle.std.proofs.Common.{◌≡◌, ℕ, zero, suc, ◌+◌, ◌-◌, ◌<◌, ◌≤◌, Bool, ◌||◌, List, [], ◌∷◌, ◌++◌, map, length, take, drop, get_or, Option, Some, None, refl, sym, ap, ◌∙◌, arith, add-one}
+use Rattle.std.proofs.Common.{◌≡◌, ℕ, suc, ◌+◌, ◌-◌, ◌<◌, ◌≤◌, Bool, ◌||◌, List, [], ◌∷◌, ◌++◌, map, length, take, drop, get_or, Option, Some, None, refl, sym, ap, ◌∙◌, arith}
 use Rattle.std.specs.Prelude.{slice_get, slice_set, codes}
 use Rattle.std.specs.List.{list_any}
-use Rattle.std.proofs.lemmas.List.{drop_more, drop_all, take_more, take_all, map_push, length-map, length-take}
+use Rattle.std.proofs.lemmas.List.{drop_more, drop_all, take_more, map_push, length-map, length-take}
 use Rattle.std.proofs.lemmas.Option.{slice_get_within, get_or_from_slice_get}
 use Rattle.tis_asm.specs.declared.program.Line.{Line}
 use Rattle.tis_cli.specs.declared.net_syntax.tree.Statement as held
 use Rattle.tis_cli.specs.declared.net_syntax.tree.ChannelLine as held_channel
-use Rattle.tis_cli.specs.Net.{Name, Statement, PortLine, ChannelLine, Process}
+use Rattle.tis_cli.specs.Net.{Name, Statement, ChannelLine, Process}
 use Rattle.tis_cli.specs.Column.{channel_of}
 use Rattle.tis_cli.specs.Compiled.{pass_code, statement_code, code_of}
 use Rattle.tis_cli.specs.Tree.{statement_of, statements_of, channel_name, line_of}
-use Rattle.tis_cli.specs.Emission.{with_processes, with_passes, with_links}
+use Rattle.tis_cli.specs.Emission.{with_passes}
 use Rattle.tis_cli.specs.Reading.{either, followed_by, behind, operation_at, operations_at, channel_at, channels_at, process_at, processes_at}
 
 -- a test of what a list is mapped to

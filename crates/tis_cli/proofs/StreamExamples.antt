@@ -1,9 +1,9 @@
 -- Streams of small networks, worked out by hand.
-use Rattle.std.proofs.Common.{◌≡◌, ℕ, ℤ, pos, negsuc, List, [], ◌∷◌, ◌++◌, refl}
+use Rattle.std.proofs.Common.{◌≡◌, ℤ, pos, negsuc, List, [], ◌∷◌, ◌++◌, refl}
 use Rattle.std.specs.Prelude.{codes, Some}
 use Rattle.tis_grid.specs.Puzzle.{Input}
-use Rattle.tis_cli.specs.Net.{Name, X, Statement, Get, Put, PutNumber, Move, Set, Add, Sub, Neg, Double, Process, Net}
-use Rattle.tis_cli.specs.Column.{Column, column_net}
+use Rattle.tis_cli.specs.Net.{Name, X, Statement, Get, Put, PutNumber, Move, Set, Add, Sub, Neg, Double, Net}
+use Rattle.tis_cli.specs.Column.{column_net}
 use Rattle.tis_cli.specs.Kahn.{kahn_at, bound}
 
 abbrev a : Name

@@ -1,5 +1,5 @@
 -- The programs that a network is compiled to.
-use Rattle.std.specs.Prelude.{ℕ, Bool, false, List, [], ◌∷◌, ◌++◌, length, map, Option, Some, None, unwrap_or, ◌==◌, if◌then◌else◌}
+use Rattle.std.specs.Prelude.{ℕ, Bool, false, List, [], ◌∷◌, length, map, Option, Some, None, unwrap_or, ◌==◌, if◌then◌else◌}
 use Rattle.std.specs.List.{list_any, range_with_len}
 use Rattle.tis_base.specs.declared.tiles.Dir.TheVariants.{Up, Down}
 use Rattle.tis_asm.specs.declared.instr.Source.TheVariants as from
@@ -8,7 +8,7 @@ use Rattle.tis_asm.specs.declared.instr.Instr.{Instr}
 use Rattle.tis_asm.specs.declared.instr.Instr.TheVariants as instr
 use Rattle.tis_asm.specs.declared.program.Line.{Line}
 use Rattle.tis_asm.specs.Listing.{Listing}
-use Rattle.tis_cli.specs.Net.{Var, X, Statement, Get, Put, PutNumber, Move, Set, Add, Sub, Neg, Double, PortLine, Process, Net}
+use Rattle.tis_cli.specs.Net.{X, Statement, Get, Put, PutNumber, Move, Set, Add, Sub, Neg, Double, PortLine, Process, Net}
 
 -- an instruction without a mark
 abbrev pub plain : Instr → Line

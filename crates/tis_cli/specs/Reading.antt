@@ -1,7 +1,7 @@
 -- Reading the text of a network from left to right: each part gives what it reads and the bytes behind it, or nothing.
-use Rattle.std.specs.Prelude.{◌≡◌, ℕ, zero, suc, ◌+◌, ◌-◌, ◌*◌, ℤ, pos, neg_ℤ, Bool, true, false, ◌&&◌, not, ◌==◌, List, [], ◌∷◌, ◌++◌, map, length, take, drop, take_while, Option, Some, None, option_and_then, codes, decimal, nat_le, if◌then◌else◌}
+use Rattle.std.specs.Prelude.{◌≡◌, ℕ, zero, suc, ◌+◌, ◌-◌, ◌*◌, ℤ, pos, neg_ℤ, Bool, true, ◌&&◌, not, ◌==◌, List, [], ◌∷◌, ◌++◌, map, length, take, drop, take_while, Option, Some, None, option_and_then, codes, decimal, nat_le, if◌then◌else◌}
 use Rattle.std.specs.Fmt.{signed_decimal}
-use Rattle.std.specs.List.{list_all, list_any}
+use Rattle.std.specs.List.{list_any}
 use Rattle.std.specs.Str.{bytes_eq}
 use Rattle.tis_base.specs.Saturation.{sat}
 use Rattle.tis_cli.specs.Net.{Name, is_name, is_name_byte, X, Statement, Get, Put, PutNumber, Move, Set, Add, Sub, Neg, Double, Process}

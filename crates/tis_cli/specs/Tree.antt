@@ -1,5 +1,5 @@
 -- What contracts see of the tree of a network.
-use Rattle.std.specs.Prelude.{◌≡◌, ℕ, List, map}
+use Rattle.std.specs.Prelude.{◌≡◌, List, map}
 use Rattle.tis_cli.specs.declared.net_syntax.tree.Statement as held
 use Rattle.tis_cli.specs.declared.net_syntax.tree.Statement.TheVariants as held_as
 use Rattle.tis_cli.specs.declared.net_syntax.tree.PortLine as held_port

@@ -72,39 +72,39 @@ fn processes_are_compiled_to_their_code(rt: HostRuntime) -> Result<(), Fail> {
     for (net, save) in [
         // Two processes, and one tile that the output passes.
         (
-            "net 1\ntiles CCCC CCCC CCCC\ninput a at 2 via\noutput o at 2 via 10\nchannel c via\nprocess p at 2\nget a x\ndouble x\nput c x\nend\nprocess q at 6\nget c x\nsub x 1\nput o x\nend\n",
-            "@2\nMOV UP, ACC\nADD ACC\nMOV ACC, DOWN\n\n@6\nMOV UP, ACC\nSUB 1\nMOV ACC, DOWN\n\n@10\nMOV UP, DOWN\n\n",
+            b"net 1\ntiles CCCC CCCC CCCC\ninput a at 2 via\noutput o at 2 via 10\nchannel c via\nprocess p at 2\nget a x\ndouble x\nput c x\nend\nprocess q at 6\nget c x\nsub x 1\nput o x\nend\n".as_slice(),
+            b"@2\nMOV UP, ACC\nADD ACC\nMOV ACC, DOWN\n\n@6\nMOV UP, ACC\nSUB 1\nMOV ACC, DOWN\n\n@10\nMOV UP, DOWN\n\n".as_slice(),
         ),
         // Sums at both ends of the values.
         (
-            "net 1\ntiles CCCC CCCC CCCC\ninput a at 1 via\noutput o at 1 via 5 9\nprocess p at 1\nget a x\nadd x 1\nput o x\nend\n",
-            "@1\nMOV UP, ACC\nADD 1\nMOV ACC, DOWN\n\n@5\nMOV UP, DOWN\n\n@9\nMOV UP, DOWN\n\n",
+            b"net 1\ntiles CCCC CCCC CCCC\ninput a at 1 via\noutput o at 1 via 5 9\nprocess p at 1\nget a x\nadd x 1\nput o x\nend\n".as_slice(),
+            b"@1\nMOV UP, ACC\nADD 1\nMOV ACC, DOWN\n\n@5\nMOV UP, DOWN\n\n@9\nMOV UP, DOWN\n\n".as_slice(),
         ),
         (
-            "net 1\ntiles CCCC CCCC CCCC\ninput a at 1 via\noutput o at 1 via 5 9\nprocess p at 1\nget a x\nsub x 1\nput o x\nend\n",
-            "@1\nMOV UP, ACC\nSUB 1\nMOV ACC, DOWN\n\n@5\nMOV UP, DOWN\n\n@9\nMOV UP, DOWN\n\n",
+            b"net 1\ntiles CCCC CCCC CCCC\ninput a at 1 via\noutput o at 1 via 5 9\nprocess p at 1\nget a x\nsub x 1\nput o x\nend\n".as_slice(),
+            b"@1\nMOV UP, ACC\nSUB 1\nMOV ACC, DOWN\n\n@5\nMOV UP, DOWN\n\n@9\nMOV UP, DOWN\n\n".as_slice(),
         ),
         (
-            "net 1\ntiles CCCC CCCC CCCC\ninput a at 1 via\noutput o at 1 via 5 9\nprocess p at 1\nget a x\ndouble x\ndouble x\nput o x\nend\n",
-            "@1\nMOV UP, ACC\nADD ACC\nADD ACC\nMOV ACC, DOWN\n\n@5\nMOV UP, DOWN\n\n@9\nMOV UP, DOWN\n\n",
+            b"net 1\ntiles CCCC CCCC CCCC\ninput a at 1 via\noutput o at 1 via 5 9\nprocess p at 1\nget a x\ndouble x\ndouble x\nput o x\nend\n".as_slice(),
+            b"@1\nMOV UP, ACC\nADD ACC\nADD ACC\nMOV ACC, DOWN\n\n@5\nMOV UP, DOWN\n\n@9\nMOV UP, DOWN\n\n".as_slice(),
         ),
         // Three processes in the first column, with each statement, and none in between.
         (
-            "net 1\ntiles CCCC CCCC CCCC\ninput a at 0 via\noutput o at 0 via\nchannel c via\nchannel d via\nprocess p at 0\nmove a c\nend\nprocess q at 4\nget c x\nset x -999\nneg x\nadd x -5\nput d x\nend\nprocess r at 8\nget d x\nput o 999\nend\n",
-            "@0\nMOV UP, DOWN\n\n@4\nMOV UP, ACC\nMOV -999, ACC\nNEG\nADD -5\nMOV ACC, DOWN\n\n@8\nMOV UP, ACC\nMOV 999, DOWN\n\n",
+            b"net 1\ntiles CCCC CCCC CCCC\ninput a at 0 via\noutput o at 0 via\nchannel c via\nchannel d via\nprocess p at 0\nmove a c\nend\nprocess q at 4\nget c x\nset x -999\nneg x\nadd x -5\nput d x\nend\nprocess r at 8\nget d x\nput o 999\nend\n".as_slice(),
+            b"@0\nMOV UP, DOWN\n\n@4\nMOV UP, ACC\nMOV -999, ACC\nNEG\nADD -5\nMOV ACC, DOWN\n\n@8\nMOV UP, ACC\nMOV 999, DOWN\n\n".as_slice(),
         ),
         // The last column.
         (
-            "net 1\ntiles CCCC CCCC CCCC\ninput a at 3 via\noutput o at 3 via 11\nchannel x via\nprocess a at 3\nget a x\nput x 0\nend\nprocess x at 7\nmove x o\nend\n",
-            "@3\nMOV UP, ACC\nMOV 0, DOWN\n\n@7\nMOV UP, DOWN\n\n@11\nMOV UP, DOWN\n\n",
+            b"net 1\ntiles CCCC CCCC CCCC\ninput a at 3 via\noutput o at 3 via 11\nchannel x via\nprocess a at 3\nget a x\nput x 0\nend\nprocess x at 7\nmove x o\nend\n".as_slice(),
+            b"@3\nMOV UP, ACC\nMOV 0, DOWN\n\n@7\nMOV UP, DOWN\n\n@11\nMOV UP, DOWN\n\n".as_slice(),
         ),
     ] {
         let mut store = MemStore::honest(rt.alloc());
         let mut out = MemSink::honest(rt.alloc());
-        store.set("n", net.as_bytes())?;
+        store.set("n", net)?;
         let status = answer(rt.alloc(), &["compile", "n", "s"], &mut store, &mut out)?;
-        assert_eq!(rt; status, Status::Done, "{net}");
-        assert_eq!(rt; store.get("s"), Some(save.as_bytes()), "{net}");
+        assert_eq!(rt; status, Status::Done);
+        assert_eq!(rt; store.get("s"), Some(save));
         assert_eq!(rt; out.written(), b"".as_slice());
     }
     Ok(())
