@@ -1,7 +1,10 @@
 //! The program `tis`.
 #![tactic(auto)]
 
+ghost use Rattle.std.specs.Prelude.{◌≡◌, ◌↔◌, ◌⊎◌};
+
 use std::alloc::Global;
+use std::io::ErrorKind;
 use std::process::ExitCode;
 use std::rt::{Env, Files};
 use std::{env, str};
@@ -22,13 +25,31 @@ failed, and 7 where memory ran out. Where it isn't 0, a line on standard error s
 
 const VERSION: &str = "tis 0.1.0\n";
 
-// The words after the program's name, or None where they can't be read as text.
-fn words<R: Env + AllocGlobal>(rt: &R) -> Option<Vec<String>> {
-    let mut words = Vec::new(rt.alloc());
-    for word in env::args(rt).ok()?.skip(1) {
-        words.push(word).ok()?;
+// The status where the words can't be had: memory ran out, or they can't be read as text.
+fn cause_of(kind: ErrorKind) -> Status
+    ensures no_memory { (result ≡ Status.NoMemory) ↔ (kind ≡ ErrorKind.OutOfMemory) }
+    ensures words { (result ≡ Status.NoMemory) ⊎ (result ≡ Status.Words) }
+{
+    if kind == ErrorKind::OutOfMemory {
+        Status::NoMemory
+    } else {
+        Status::Words
     }
-    Some(words)
+}
+
+// The words after the program's name.
+fn words<R: Env + AllocGlobal>(rt: &R) -> Result<Vec<String>, Status> {
+    let given = match env::args(rt) {
+        Ok(given) => given,
+        Err(error) => return Err(cause_of(error.kind())),
+    };
+    let mut words = Vec::new(rt.alloc());
+    for word in given.skip(1) {
+        if words.push(word).is_err() {
+            return Err(Status::NoMemory);
+        }
+    }
+    Ok(words)
 }
 
 // What the program prints for a word that is no command: its help, or its version.
@@ -65,8 +86,8 @@ fn explain<R: Eprint>(rt: &R, alloc: Global, status: &Status) {
 fn main(rt: HostRuntime) -> ExitCode {
     let alloc = rt.alloc();
     let status = match words(&rt) {
-        None => Status::Words,
-        Some(words) => match text_of(&words) {
+        Err(status) => status,
+        Ok(words) => match text_of(&words) {
             Some(text) => match OutSink::new(&rt).put(text.as_bytes()) {
                 Ok(()) => Status::Done,
                 Err(_) => Status::SinkFault,
