@@ -1,10 +1,7 @@
 //! The program `tis`.
 #![tactic(auto)]
 
-ghost use Rattle.std.specs.Prelude.{◌≡◌, ◌↔◌, ◌⊎◌};
-
 use std::alloc::Global;
-use std::io::ErrorKind;
 use std::process::ExitCode;
 use std::rt::{Env, Files};
 use std::{env, str};
@@ -25,23 +22,10 @@ failed, and 7 where memory ran out. Where it isn't 0, a line on standard error s
 
 const VERSION: &str = "tis 0.1.0\n";
 
-// The status where the words can't be had: memory ran out, or they can't be read as text.
-fn cause_of(kind: ErrorKind) -> Status
-    ensures no_memory { (result ≡ Status.NoMemory) ↔ (kind ≡ ErrorKind.OutOfMemory) }
-    ensures words { (result ≡ Status.NoMemory) ⊎ (result ≡ Status.Words) }
-{
-    if kind == ErrorKind::OutOfMemory {
-        Status::NoMemory
-    } else {
-        Status::Words
-    }
-}
-
-// The words after the program's name.
+// The words after the program's name. Where they can't be had as a whole, they are no command.
 fn words<R: Env + AllocGlobal>(rt: &R) -> Result<Vec<String>, Status> {
-    let given = match env::args(rt) {
-        Ok(given) => given,
-        Err(error) => return Err(cause_of(error.kind())),
+    let Ok(given) = env::args(rt) else {
+        return Err(Status::Words);
     };
     let mut words = Vec::new(rt.alloc());
     for word in given.skip(1) {
