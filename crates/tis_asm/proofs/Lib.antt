@@ -1,5 +1,4 @@
 pub mod Texts
-pub mod Listings
 pub mod Passing
 pub mod Counting
 pub mod Numbers

@@ -1,7 +1,6 @@
 -- A step of each loop that reads or places.
-use Rattle.std.proofs.Common.{◌≡◌, ℕ, suc, ◌+◌, ◌-◌, ◌<◌, ◌≤◌, Bool, ◌||◌, List, [], ◌∷◌, ◌++◌, map, length, take, drop, get_or, Option, Some, None, refl, sym, ap, ◌∙◌, arith}
+use Rattle.std.proofs.Common.{◌≡◌, ℕ, suc, ◌+◌, ◌-◌, ◌<◌, ◌≤◌, List, [], ◌∷◌, ◌++◌, map, length, take, drop, get_or, Option, Some, None, refl, sym, ap, ◌∙◌, arith}
 use Rattle.std.specs.Prelude.{slice_get, slice_set, codes}
-use Rattle.std.specs.List.{list_any}
 use Rattle.std.proofs.lemmas.List.{drop_more, drop_all, take_more, map_push, length-map, length-take}
 use Rattle.std.proofs.lemmas.Option.{slice_get_within, get_or_from_slice_get}
 use Rattle.tis_asm.specs.declared.program.Line.{Line}
@@ -13,11 +12,6 @@ use Rattle.tis_cli.specs.Compiled.{pass_code, statement_code, code_of}
 use Rattle.tis_cli.specs.Tree.{statement_of, statements_of, channel_name, line_of}
 use Rattle.tis_cli.specs.Emission.{with_passes}
 use Rattle.tis_cli.specs.Reading.{either, followed_by, behind, operation_at, operations_at, channel_at, channels_at, process_at, processes_at}
-
--- a test of what a list is mapped to
-pub list_any_of_map : {X Y : Type 0} (p : Y → Bool) (f : X → Y) (xs : List X) → list_any p (map f xs) ≡ list_any (λ x. p (f x)) xs
-list_any_of_map p f [] = refl
-list_any_of_map p f (x ∷ xs) = ap (λ (b : Bool). p (f x) || b) (list_any_of_map p f xs)
 
 -- a counter below its end, and one more step
 pub counted : (end at : ℕ) → at < end → end - at ≡ suc (end - (at + 1))
@@ -99,9 +93,6 @@ processes_end tile read processes bytes = refl
 
 pub passes_more : (tiles : List ℕ) (i tile : ℕ) (programs : List (List Line)) → slice_get tiles i ≡ Some tile → with_passes (drop i tiles) programs ≡ with_passes (drop (i + 1) tiles) (slice_set programs tile pass_code)
 passes_more tiles i tile programs found = ap (λ (left : List ℕ). with_passes left programs) (drop_found tiles i tile found)
-
-pub passes_end : (tiles : List ℕ) (i : ℕ) (programs : List (List Line)) → length tiles ≤ i → with_passes (drop i tiles) programs ≡ programs
-passes_end tiles i programs le = ap (λ (left : List ℕ). with_passes left programs) (drop_all i tiles le)
 
 -- one more channel that goes directly
 pub direct_push : (before after : List held_channel.ChannelLine) (name : Name) {via : Option (List ℕ)} → after ≡ before ++ record { name = name; via = via } ∷ [] → map line_of before ≡ map channel_of (map channel_name before) → via ≡ Some []
