@@ -1,5 +1,6 @@
 //! One program for each tile.
-ghost use Rattle.std.specs.Prelude.{◌≡◌, ◌<◌, [], length, replicate, slice_get, slice_set, IfOk, Some};
+ghost use Rattle.std.specs.Prelude.{◌≡◌, ◌<◌, [], length, replicate, slice_get, slice_set, Some};
+ghost use Rattle.tis_base.specs.Answers.{Gives};
 ghost use Rattle.tis_base.specs.Tiles.{IsOnBoard, IsCompute};
 
 use crate::program::Program;
@@ -29,7 +30,7 @@ impl Programs {
 
     /// The empty program on each tile.
     pub fn empty(alloc: Global, tiles: Tiles) -> Result<Programs, NoMemory>
-        ensures { IfOk result (λ p. p ≡ record { tiles = tiles; programs = replicate (length tiles.kinds) [] }) }
+        ensures { Gives (λ p. p) result (record { tiles = tiles; programs = replicate (length tiles.kinds) [] }) }
     {
         let count = tiles.shape().columns * tiles.shape().rows;
         let mut programs = Vec::new(alloc);

@@ -1,5 +1,6 @@
 //! The canonical text of a program.
-ghost use Rattle.std.specs.Prelude.{◌≡◌, ◌++◌, OnOk, IfOk};
+ghost use Rattle.std.specs.Prelude.{◌≡◌, ◌++◌, OnOk};
+ghost use Rattle.tis_base.specs.Answers.{Gives};
 ghost use Rattle.tis_asm.specs.declared.instr.Instr.TheVariants.{Mov};
 ghost use Rattle.tis_asm.specs.Code.{dir_word, source_word, dest_word, instr_text, line_text, code_text};
 
@@ -84,7 +85,7 @@ fn push_line(out: &mut Vec<u8>, line: Line) -> Result<(), NoMemory>
 /// The canonical text of a program: a line for each instruction, in capitals, with `, ` between the
 /// operands of a `MOV` and a `!` in front of a marked one.
 pub fn print(alloc: Global, program: &Program) -> Result<Vec<u8>, NoMemory>
-    ensures { IfOk result (λ text. text.items ≡ code_text program.now) }
+    ensures { Gives (λ text. text.items) result (code_text program.now) }
 {
     let mut out = Vec::new(alloc);
     for index in 0..program.len() {

@@ -85,7 +85,8 @@ impl<R: Files> Store for FileStore<'_, R> {
     ghost misses = { λ s. s.misses };
 
     /// The bytes of the file with this name, if there are no more than 16 MiB. A file that isn't
-    /// there to be opened is missing, and anything else that goes wrong is a fault.
+    /// there to be opened is missing. Anything else that goes wrong, but for want of memory, is a
+    /// fault.
     fn fetch(&mut self, alloc: Global, name: &str) -> Result<Vec<u8>, StoreError>
         ensures fits { IfOk result (λ bytes. vec_len bytes ≤ LARGEST) }
         ensures faults_rise { IsErrOf result StoreError.Failed
@@ -111,7 +112,8 @@ impl<R: Files> Store for FileStore<'_, R> {
     }
 
     /// Puts these bytes into the file with this name, in the place of what was there. Anything that
-    /// goes wrong is a fault, as a folder that isn't there, and the file may then be cut short.
+    /// goes wrong, but for want of memory, is a fault, as a folder that isn't there, and the file
+    /// may then be cut short.
     fn keep(&mut self, name: &str, bytes: &[u8]) -> Result<(), StoreError>
         ensures never_missing { result ≢ Err StoreError.Missing }
         ensures faults_rise { IsErrOf result StoreError.Failed

@@ -59,6 +59,7 @@ impl Value {
     {
         i64::from(self.number)
     }
+
     /// Whether it is this number.
     pub(crate) fn is(self, number: u64) -> bool
         ensures { IsTrue result ↔ (self ≡ pos number) }

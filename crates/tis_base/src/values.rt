@@ -61,6 +61,7 @@ impl Values {
     {
         self.values[index]
     }
+
     /// Whether the list has this number.
     pub(crate) fn has(&self, number: u64) -> bool
         ensures { IsTrue result ↔ Contains self.now.items (pos number) }

@@ -1,5 +1,6 @@
 //! The programs of a network.
-ghost use Rattle.std.specs.Prelude.{◌≡◌, ◌<◌, ◌+◌, ◌∷◌, [], false, map, All, IfOk, IfSome};
+ghost use Rattle.std.specs.Prelude.{◌≡◌, ◌<◌, ◌+◌, ◌∷◌, [], false, map, All, IfSome};
+ghost use Rattle.tis_base.specs.Answers.{Gives};
 ghost use Rattle.tis_base.specs.Tiles.{Board};
 ghost use Rattle.tis_cli.specs.Column.{plain_board};
 ghost use Rattle.tis_cli.specs.Compiled.{pass_code, statement_code, code_of, compiled};
@@ -103,7 +104,7 @@ fn place_links(programs: &mut Programs, ports: &[PortLine])
 /// tile that its output passes.
 pub fn emit(alloc: Global, net: &Net) -> Result<Programs, NoMemory>
     requires { IsTaken (net_of net.now) }
-    ensures { IfOk result (λ programs. programs ≡ compiled (net_of net.now)) }
+    ensures { Gives (λ programs. programs) result (compiled (net_of net.now)) }
 {
     let mut programs = Programs::empty(alloc, net.tiles)?;
     place_processes(&mut programs, &net.processes);

@@ -1,5 +1,7 @@
 //! How the program ends.
-ghost use Rattle.std.specs.Prelude.{◌≡◌, IfOk};
+ghost use Rattle.std.specs.Prelude.{◌≡◌};
+ghost use Rattle.tis_base.specs.Answers.{Gives};
+ghost use Rattle.tis_cli.specs.Commands.{number_of, refusal_words, status_line};
 
 use crate::net_syntax::NetError;
 use std::alloc::Global;
@@ -32,8 +34,6 @@ pub enum Status {
 }
 
 impl Status {
-    ghost use Rattle.tis_cli.specs.Commands.{number_of};
-
     /// The number that the program ends with: 0, or from 2 to 7.
     pub fn number(&self) -> u8
         ensures { result ≡ number_of self.now }
@@ -49,8 +49,6 @@ impl Status {
         }
     }
 }
-
-ghost use Rattle.tis_cli.specs.Commands.{refusal_words, status_line};
 
 impl From<NoMemory> for Status {
     ghost use Rattle.std.specs.Prelude.{◌≡◌};
@@ -103,7 +101,7 @@ fn refusal_text(refusal: Refusal) -> &'static [u8]
 
 /// The line that says how a call ended, without its LF. For `Done` it is empty.
 pub fn describe(alloc: Global, status: &Status) -> Result<Vec<u8>, NoMemory>
-    ensures { IfOk result (λ line. line.items ≡ status_line status.now) }
+    ensures { Gives (λ line. line.items) result (status_line status.now) }
 {
     let mut line = Vec::new(alloc);
     match status {

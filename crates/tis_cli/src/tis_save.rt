@@ -1,5 +1,6 @@
 //! The text of a save.
-ghost use Rattle.std.specs.Prelude.{◌≡◌, ◌+◌, ◌<◌, ◌++◌, ◌∷◌, decimal, if◌then◌else◌, IfOk, OnOk};
+ghost use Rattle.std.specs.Prelude.{◌≡◌, ◌+◌, ◌<◌, ◌++◌, ◌∷◌, decimal, if◌then◌else◌, OnOk};
+ghost use Rattle.tis_base.specs.Answers.{Gives};
 ghost use Rattle.tis_base.specs.Tiles.{is_compute};
 ghost use Rattle.tis_cli.specs.Saves.{block_text, save_text};
 
@@ -42,7 +43,7 @@ fn block_after(block: u8, kind: TileKind) -> u8
 
 /// The canonical save: a block for each compute tile with instructions, in reading order.
 pub fn write_save(alloc: Global, programs: &Programs) -> Result<Vec<u8>, NoMemory>
-    ensures { IfOk result (λ text. text.items ≡ save_text programs.now) }
+    ensures { Gives (λ text. text.items) result (save_text programs.now) }
 {
     let mut out = Vec::new(alloc);
     let tiles = programs.tiles();
