@@ -6,8 +6,9 @@ use Rattle.std.specs.Fmt.{signed_decimal}
 use Rattle.std.proofs.lemmas.Bool.{false≢true, and_parts, and_from, ne_eqb}
 use Rattle.std.proofs.lemmas.Bool.Decides.{nat_tests}
 use Rattle.std.proofs.lemmas.Fmt.{decimal_by_steps}
-use Rattle.std.proofs.lemmas.Int.{ints, clamps}
+use Rattle.std.proofs.lemmas.Int.{ints}
 use Rattle.tis_base.specs.Saturation.{sat, IsValue}
+use Rattle.tis_base.proofs.Saturating.{sat_value}
 use Rattle.tis_base.proofs.TextLines.{is_plain_byte, is_plain_line, list_all-join}
 use Rattle.tis_asm.specs.declared.instr.Source.TheVariants as from
 use Rattle.tis_asm.specs.Assembling.{is_gap, is_filled, is_digit, digits_number, number_of_word, source_of_word}
@@ -98,18 +99,14 @@ source_of_word-digits number (byte ∷ digits) is =
 
 -- ---- the word of a value
 
--- the nearest value to a value is itself
-pub sat-value : (number : ℤ) → IsValue number → sat number ≡ number
-sat-value number is = omega (arith, ints, clamps)
-
 -- the value that a word of digits names as a source
 pub source_of_word-value : (number : ℤ) → IsValue number → source_of_word (signed_decimal number) ≡ Some (from.Number number)
 source_of_word-value (pos n) is =
     let numeral = decimal_is_numeral n (omega (arith, ints)) in
-    source_of_word-digits n (decimal n) numeral ∙ ap (option_map (λ n. from.Number n)) (number_of_word-digits n (decimal n) numeral) ∙ ap (λ (n : ℤ). Some (from.Number n)) (sat-value (pos n) is)
+    source_of_word-digits n (decimal n) numeral ∙ ap (option_map (λ n. from.Number n)) (number_of_word-digits n (decimal n) numeral) ∙ ap (λ (n : ℤ). Some (from.Number n)) (sat_value (pos n) is)
 source_of_word-value (negsuc n) is =
     let numeral = decimal_is_numeral (suc n) (omega (arith, ints)) in
-    ap (option_map (λ n. from.Number n)) (number_of_word-minus (suc n) (decimal (suc n)) numeral) ∙ ap (λ (n : ℤ). Some (from.Number n)) (sat-value (negsuc n) is)
+    ap (option_map (λ n. from.Number n)) (number_of_word-minus (suc n) (decimal (suc n)) numeral) ∙ ap (λ (n : ℤ). Some (from.Number n)) (sat_value (negsuc n) is)
 
 -- a word of a value is filled
 pub value_is_filled : (number : ℤ) → IsValue number → is_filled (signed_decimal number) ≡ true

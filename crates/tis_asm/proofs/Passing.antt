@@ -31,7 +31,7 @@ is_same_dir-other a b apart = decided (is_same_dir a b) refl
     decided false e = e
 
 -- a choice between a value and none that gave a value
-chosen : (t : Bool) (v w : ℤ) → (if t then Some v else None) ≡ Some w → (t ≡ true) × (v ≡ w)
+pub chosen : (t : Bool) (v w : ℤ) → (if t then Some v else None) ≡ Some w → (t ≡ true) × (v ≡ w)
 chosen true v w e = (refl, cc)
 chosen false v w e = absurd cc
 

@@ -3,3 +3,4 @@ pub mod Writes
 pub mod Always
 pub mod Prefixes
 pub mod TextLines
+pub mod Saturating

@@ -2,16 +2,16 @@
 use Rattle.std.proofs.Common.{◌≡◌, ◌≢◌, ℕ, suc, Bool, true, false, not, ◌||◌, List, [], ◌∷◌, ◌++◌, map, refl, sym, ap, ◌∙◌, arith}
 use Rattle.std.specs.Prelude.{◌&&◌, All, AllPairs}
 use Rattle.std.specs.Str.{bytes_eq}
-use Rattle.std.proofs.lemmas.Bool.{false≢true}
+use Rattle.std.proofs.lemmas.Bool.{false≢true, and_parts, and_from}
 use Rattle.std.proofs.lemmas.List.{map-id}
 use Rattle.std.proofs.lemmas.List.Elements.{All-cons, All-nil, All-append}
 use Rattle.std.proofs.lemmas.List.Kept.{AllPairs-cons}
 use Rattle.std.proofs.lemmas.List.Quantifiers.{all_pairs_push}
 use Rattle.std.proofs.lemmas.Slice.Eq.{bytes_eq-Decides}
+use Rattle.tis_base.proofs.TextLines.{not_is}
 use Rattle.tis_cli.specs.Net.{Name}
 use Rattle.tis_cli.specs.Column.{Column, links_below}
 use Rattle.tis_cli.specs.Reading.{is_among, all_differ, links_differ, process_names}
-use Rattle.tis_cli.proofs.Parts.{both_held}
 
 -- ---- what holds of each of some elements
 
@@ -50,16 +50,9 @@ AllPairs-last R (x ∷ xs) y pairs =
 
 -- ---- the tests
 
-not_true : (b : Bool) → not b ≡ true → b ≡ false
-not_true true e = absurd cc
-not_true false e = refl
-
 neither : (a b : Bool) → (a || b) ≡ false → (a ≡ false) × (b ≡ false)
 neither true b e = absurd cc
 neither false b e = (refl, e)
-
-both : (a b : Bool) → a ≡ true → b ≡ true → (a && b) ≡ true
-both a b e f = rw (e, f) refl
 
 differs : (a b : Name) → bytes_eq a b ≡ false → b ≢ a
 differs a b failed = λ same. false≢true (sym failed ∙ (bytes_eq-Decides a b).1 (sym same))
@@ -88,8 +81,8 @@ among_none f name (x ∷ xs) all = rw (not_same (f x) name (All-first (λ y. nam
 pairs_differ : {X : Type 0} (f : X → Name) (xs : List X) → all_differ (map f xs) ≡ true → AllPairs (λ a b. f a ≢ f b) xs
 pairs_differ f [] passed = AllPairs-nil (λ a b. f a ≢ f b)
 pairs_differ f (x ∷ xs) passed =
-    let held = both_held (not (is_among (f x) (map f xs))) (all_differ (map f xs)) passed in
-    AllPairs-cons (λ a b. f a ≢ f b) x xs (not_among f (f x) xs (not_true _ held.0)) (pairs_differ f xs held.1)
+    let held = and_parts (not (is_among (f x) (map f xs))) (all_differ (map f xs)) passed in
+    AllPairs-cons (λ a b. f a ≢ f b) x xs (not_among f (f x) xs (not_is _ held.0)) (pairs_differ f xs held.1)
 
 all_differ_again : {X : Type 0} (f : X → Name) (xs : List X) → AllPairs (λ a b. f a ≢ f b) xs → all_differ (map f xs) ≡ true
 all_differ_again f [] pairs = refl
@@ -106,12 +99,12 @@ Differ a b = a ≢ b
 
 links_pairs : (input output : Name) (channels : List Name) → links_differ input channels output ≡ true → AllPairs Differ (input ∷ (channels ++ output ∷ []))
 links_pairs input output channels passed =
-    let parts = both_held (not (is_among input (output ∷ channels)) && not (is_among output channels)) (all_differ channels) passed in
-    let ends = both_held (not (is_among input (output ∷ channels))) (not (is_among output channels)) parts.0 in
-    let first = neither (bytes_eq output input) (is_among input channels) (not_true _ ends.0) in
+    let parts = and_parts (not (is_among input (output ∷ channels)) && not (is_among output channels)) (all_differ channels) passed in
+    let ends = and_parts (not (is_among input (output ∷ channels))) (not (is_among output channels)) parts.0 in
+    let first = neither (bytes_eq output input) (is_among input channels) (not_is _ ends.0) in
     let ids : map itself channels ≡ channels = map-id channels in
     let among_input : All (Differ input) channels = not_among itself input channels (ap (is_among input) ids ∙ first.1) in
-    let among_output : All (Differ output) channels = not_among itself output channels (ap (is_among output) ids ∙ not_true _ ends.1) in
+    let among_output : All (Differ output) channels = not_among itself output channels (ap (is_among output) ids ∙ not_is _ ends.1) in
     let between : AllPairs Differ channels = pairs_differ itself channels (ap all_differ ids ∙ parts.1) in
     AllPairs-cons Differ input (channels ++ output ∷ [])
     (All-append (Differ input) channels (output ∷ []) among_input (All-cons (Differ input) output [] (differs output input first.0) (All-nil _)))
@@ -134,10 +127,10 @@ links_pairs_again input output channels pairs =
 pub columns_differ : (column : Column) → (links_differ column.input column.channels column.output && all_differ (process_names column.processes)) ≡ true
     → AllPairs (λ a b. a ≢ b) (column.input ∷ links_below column) × AllPairs (λ a b. a.name ≢ b.name) column.processes
 columns_differ column passed =
-    let held = both_held (links_differ column.input column.channels column.output) (all_differ (process_names column.processes)) passed in
+    let held = and_parts (links_differ column.input column.channels column.output) (all_differ (process_names column.processes)) passed in
     (links_pairs column.input column.output column.channels held.0, pairs_differ (λ process. process.name) column.processes held.1)
 
 pub differ_again : (column : Column) → AllPairs (λ a b. a ≢ b) (column.input ∷ links_below column) → AllPairs (λ a b. a.name ≢ b.name) column.processes
     → (links_differ column.input column.channels column.output && all_differ (process_names column.processes)) ≡ true
 differ_again column links processes =
-    both _ _ (links_pairs_again column.input column.output column.channels links) (all_differ_again (λ process. process.name) column.processes processes)
+    and_from _ _ (links_pairs_again column.input column.output column.channels links) (all_differ_again (λ process. process.name) column.processes processes)

@@ -5,11 +5,12 @@ use Rattle.std.specs.Fmt.{signed_decimal}
 use Rattle.std.specs.List.{list_all}
 use Rattle.std.specs.Str.{bytes_eq}
 use Rattle.std.proofs.lemmas.Fmt.{decimal_digit, decimal_step}
-use Rattle.std.proofs.lemmas.Int.{ints, clamps}
+use Rattle.std.proofs.lemmas.Int.{ints}
 use Rattle.std.proofs.lemmas.Bool.Decides.{nat_tests}
 use Rattle.std.proofs.lemmas.List.{drop_at}
 use Rattle.std.proofs.lemmas.Slice.Eq.{bytes_eq-Decides}
 use Rattle.tis_base.specs.Saturation.{sat, IsValue}
+use Rattle.tis_base.proofs.Saturating.{sat_is_value, sat_value}
 use Rattle.tis_cli.specs.Reading.{behind, is_in_line, line_run, magnitude_of, number_of, value_of, value_at, value_line_at}
 use Rattle.tis_cli.proofs.Parts.{some_is, not_behind, step, goes_on, glue, test_held, behind_is, behind_again, run_then_rest, run_again}
 
@@ -75,12 +76,6 @@ digits_of n lt = by_size n (n / 10) (n / 100) refl refl lt
 
 -- ---- values
 
-value_sat : (n : ℤ) → IsValue (sat n)
-value_sat n = (omega (arith, ints, clamps), omega (arith, ints, clamps))
-
-sat_value : (n : ℤ) → IsValue n → sat n ≡ n
-sat_value n is = omega (arith, ints, clamps)
-
 -- the text of a value
 pub record Spelt (n : ℤ) (text : List ℕ) : Type 0 where
   pub value : number_of text ≡ n
@@ -113,7 +108,7 @@ value_is bytes x e =
     let held = test_held (bytes_eq (line_run bytes) (signed_decimal (value_of bytes))) (value_of bytes, drop (length (line_run bytes)) bytes) x e in
     let run : line_run bytes ≡ signed_decimal (value_of bytes) = (bytes_eq-Decides _ _).0 held.0 in
     subst (λ (y : ℤ × List ℕ). IsValue y.0 × (bytes ≡ signed_decimal y.0 ++ y.1)) held.1
-    (value_sat (number_of (line_run bytes)), sym (run_then_rest is_in_line bytes) ∙ ap (λ (text : List ℕ). text ++ drop (length (line_run bytes)) bytes) run)
+    (sat_is_value (number_of (line_run bytes)), sym (run_then_rest is_in_line bytes) ∙ ap (λ (text : List ℕ). text ++ drop (length (line_run bytes)) bytes) run)
 
 value_found : (bytes run rest : List ℕ) (n : ℤ) → line_run bytes ≡ run → bytes ≡ run ++ rest → number_of run ≡ n → sat n ≡ n → run ≡ signed_decimal n → value_at bytes ≡ Some (n, rest)
 unfolding value_at

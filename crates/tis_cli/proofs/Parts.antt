@@ -3,7 +3,7 @@ use Rattle.std.proofs.Common.{◌≡◌, ℕ, zero, suc, ◌+◌, ◌-◌, ◌<�
 use Rattle.std.specs.Prelude.{◌&&◌, nat_le, decimal}
 use Rattle.std.specs.List.{list_all, take_while}
 use Rattle.std.specs.Str.{bytes_eq}
-use Rattle.std.proofs.lemmas.Bool.{leb-true}
+use Rattle.std.proofs.lemmas.Bool.{leb-true, and_parts}
 use Rattle.std.proofs.lemmas.Fmt.{decimal_digit}
 use Rattle.std.proofs.lemmas.List.{take_at, drop_at, take-append-drop}
 use Rattle.std.proofs.lemmas.List.Sums.{take_while-cons}
@@ -30,11 +30,6 @@ glue front is rest-is = is ∙ ap (λ (text : List ℕ). front ++ text) rest-is
 pub test_held : {A : Type 0} (test : Bool) (x y : A) → cond test (Some x) None ≡ Some y → (test ≡ true) × (x ≡ y)
 test_held true x y e = (refl, cc)
 test_held false x y e = absurd cc
-
--- both tests held
-pub both_held : (a b : Bool) → (a && b) ≡ true → (a ≡ true) × (b ≡ true)
-both_held true b e = (refl, e)
-both_held false b e = absurd cc
 
 pub some_is : {A : Type 0} {x y : A} → Some x ≡ Some y → x ≡ y
 some_is e = cc
@@ -101,7 +96,7 @@ run_then_rest p (byte ∷ bytes) =
 pub run_again : (p : ℕ → Bool) (run : List ℕ) (byte : ℕ) (rest : List ℕ) → list_all p run ≡ true → p byte ≡ false → take_while p (run ++ byte ∷ rest) ≡ run
 run_again p [] byte rest all ends = rw (take_while-cons p byte rest, ends) refl
 run_again p (first ∷ run) byte rest all ends =
-    let held = both_held (p first) (list_all p run) all in
+    let held = and_parts (p first) (list_all p run) all in
     rw (take_while-cons p first (run ++ byte ∷ rest), held.0) (ap (λ (text : List ℕ). first ∷ text) (run_again p run byte rest held.1 ends))
 
 pub name_is : (bytes : List ℕ) (x : Name × List ℕ) → name_at bytes ≡ Some x → (is_name x.0 ≡ true) × (bytes ≡ x.0 ++ x.1)
@@ -113,7 +108,7 @@ name_is bytes x e =
 pub name_again : (name : Name) (byte : ℕ) (rest : List ℕ) → is_name name ≡ true → is_name_byte byte ≡ false → name_at (name ++ byte ∷ rest) ≡ Some (name, byte ∷ rest)
 unfolding name_at
 name_again name byte rest named ends =
-    let all = (both_held _ _ (both_held _ _ named).0).1 in
+    let all = (and_parts _ _ (and_parts _ _ named).0).1 in
     rw (run_again is_name_byte name byte rest all ends, named, drop_at name (byte ∷ rest) (length name) refl) refl
 
 -- ---- the digit of a column
@@ -123,7 +118,7 @@ unfolding position_at
 position_is [] x e = absurd cc
 position_is (byte ∷ bytes) x e =
     let held = test_held (nat_le 48 byte && nat_le byte 51) (byte - 48, bytes) x e in
-    let tests = both_held (nat_le 48 byte) (nat_le byte 51) held.0 in
+    let tests = and_parts (nat_le 48 byte) (nat_le byte 51) held.0 in
     let low = leb-true 48 byte tests.0 in
     let high = leb-true byte 51 tests.1 in
     let small : byte - 48 < 4 = omega arith in

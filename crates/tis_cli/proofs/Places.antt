@@ -1,6 +1,6 @@
 -- Where a node stands in a round of its process, and how each of its steps leads on.
-use Rattle.std.proofs.Common.{◌≡◌, ◌≢◌, ℕ, ◌+◌, ◌*◌, ◌<◌, ◌≤◌, ℤ, Bool, true, false, List, [], ◌∷◌, ◌++◌, length, map, Option, Some, None, refl, sym, ap, subst, ◌∙◌, append_assoc, append-nil, length-append, arith}
-use Rattle.std.specs.Prelude.{IsTrue, if◌then◌else◌}
+use Rattle.std.proofs.Common.{◌≡◌, ◌≢◌, ℕ, ◌+◌, ◌*◌, ◌<◌, ◌≤◌, ℤ, true, false, List, [], ◌∷◌, ◌++◌, length, map, Option, Some, refl, sym, ap, subst, ◌∙◌, append_assoc, append-nil, length-append, arith}
+use Rattle.std.specs.Prelude.{IsTrue}
 use Rattle.std.proofs.lemmas.List.{map-append}
 use Rattle.tis_base.specs.declared.tiles.Dir.{Dir}
 use Rattle.tis_base.specs.declared.tiles.Dir.TheVariants.{Up, Down}
@@ -8,7 +8,7 @@ use Rattle.tis_asm.specs.declared.instr.Instr.{Instr}
 use Rattle.tis_asm.specs.declared.program.Line.{Line}
 use Rattle.tis_asm.specs.Node.{Node, Ready, Writing, One, is_same_dir, instr_at, next_of, goes_on, is_local, reads_from, wants, offers, fresh}
 use Rattle.tis_asm.specs.PortRuns.{Step, Own, Took, Gave, IsStep, after_step, after_steps, IsPortRun, taken_by, given_by, own_by, taken_from, given_to, own_count}
-use Rattle.tis_asm.proofs.Passing.{is_same_dir-true, is_same_dir-other}
+use Rattle.tis_asm.proofs.Passing.{chosen, is_same_dir-true, is_same_dir-other}
 use Rattle.tis_cli.specs.Net.{Name, X, Statement, Get, Move}
 use Rattle.tis_cli.specs.Column.{IsOperation, SendsOn}
 use Rattle.tis_cli.specs.Compiled.{code_of}
@@ -41,11 +41,6 @@ takes_up value dir apart = rw (is_same_dir-other Up dir (λ e. apart (sym e))) r
 -- a value given downwards goes to no other port
 gives_down : (value : ℤ) (dir : Dir) → dir ≢ Down → given_by dir (Gave Down value) ≡ []
 gives_down value dir apart = rw (is_same_dir-other Down dir (λ e. apart (sym e))) refl
-
--- a choice between a value and none that gave a value
-chosen : (t : Bool) (v w : ℤ) → (if t then Some v else None) ≡ Some w → (t ≡ true) × (v ≡ w)
-chosen true v w e = (refl, cc)
-chosen false v w e = absurd cc
 
 -- a step from the top of a round that moves a value
 top_moves : (read written : Name) (node : Node) → node.pc ≡ 0 → (step : Step) → IsStepIn Ready (instr_of (Move read written)) step →

@@ -6,24 +6,10 @@ use Rattle.tis_base.specs.declared.tiles.Dir.{Dir}
 use Rattle.tis_base.specs.declared.tiles.Dir.TheVariants.{Left, Right, Up, Down}
 use Rattle.tis_asm.specs.Node.{is_same_dir}
 use Rattle.tis_asm.specs.PortRuns.{Step, Own, Took, Gave, taken_from, given_to}
+use Rattle.tis_asm.proofs.Passing.{is_same_dir-true, is_same_dir-self}
 use Rattle.tis_grid.specs.OwnSteps.{step_at}
 
 -- ---- directions
-
--- the test says that they are the same
-pub same_dir : (a b : Dir) → is_same_dir a b ≡ true → a ≡ b
-same_dir Left Left is = refl
-same_dir Right Right is = refl
-same_dir Up Up is = refl
-same_dir Down Down is = refl
-same_dir _ _ is = cc
-
--- a direction is the same as itself
-same_self : (dir : Dir) → is_same_dir dir dir ≡ true
-same_self Left = refl
-same_self Right = refl
-same_self Up = refl
-same_self Down = refl
 
 -- the direction from the other side, seen from the other side
 pub opposite_twice : (dir : Dir) → opposite (opposite dir) ≡ dir
@@ -92,33 +78,33 @@ gave_takes_none dir tile other port value = step_cases (λ steps. taken_from dir
 pub gives_none : (dir : Dir) (tile other : ℕ) (port : Dir) (value : ℤ) → (other ≡ tile → port ≡ dir → ⊥) → given_to dir (step_at tile other (Gave port value)) ≡ []
 gives_none dir tile other port value apart =
     step_cases (λ steps. given_to dir steps ≡ []) tile other (Gave port value)
-    (λ same. ap (λ b. cond b (value ∷ []) [] ++ []) (false_from_ne_true (is_same_dir port dir) (λ is. apart same (same_dir port dir is)))) (λ elsewhere. refl)
+    (λ same. ap (λ b. cond b (value ∷ []) [] ++ []) (false_from_ne_true (is_same_dir port dir) (λ is. apart same (is_same_dir-true port dir is)))) (λ elsewhere. refl)
 
 -- nor does it take anything from there
 pub takes_none : (dir : Dir) (tile other : ℕ) (port : Dir) (value : ℤ) → (other ≡ tile → port ≡ dir → ⊥) → taken_from dir (step_at tile other (Took port value)) ≡ []
 takes_none dir tile other port value apart =
     step_cases (λ steps. taken_from dir steps ≡ []) tile other (Took port value)
-    (λ same. ap (λ b. cond b (value ∷ []) [] ++ []) (false_from_ne_true (is_same_dir port dir) (λ is. apart same (same_dir port dir is)))) (λ elsewhere. refl)
+    (λ same. ap (λ b. cond b (value ∷ []) [] ++ []) (false_from_ne_true (is_same_dir port dir) (λ is. apart same (is_same_dir-true port dir is)))) (λ elsewhere. refl)
 
 -- a step of this tile at this port gives its value
 pub gives_here : (dir : Dir) (tile other : ℕ) (port : Dir) (value : ℤ) → other ≡ tile → port ≡ dir → given_to dir (step_at tile other (Gave port value)) ≡ value ∷ []
 gives_here dir tile other port value same is =
     subst (λ (t : ℕ). given_to dir (step_at t other (Gave port value)) ≡ value ∷ []) same
     (subst (λ (d : Dir). given_to d (step_at other other (Gave port value)) ≡ value ∷ []) is
-    (ap (given_to port) (own_step other (Gave port value)) ∙ ap (λ b. cond b (value ∷ []) [] ++ []) (same_self port)))
+    (ap (given_to port) (own_step other (Gave port value)) ∙ ap (λ b. cond b (value ∷ []) [] ++ []) (is_same_dir-self port)))
 
 -- or takes it
 pub takes_here : (dir : Dir) (tile other : ℕ) (port : Dir) (value : ℤ) → other ≡ tile → port ≡ dir → taken_from dir (step_at tile other (Took port value)) ≡ value ∷ []
 takes_here dir tile other port value same is =
     subst (λ (t : ℕ). taken_from dir (step_at t other (Took port value)) ≡ value ∷ []) same
     (subst (λ (d : Dir). taken_from d (step_at other other (Took port value)) ≡ value ∷ []) is
-    (ap (taken_from port) (own_step other (Took port value)) ∙ ap (λ b. cond b (value ∷ []) [] ++ []) (same_self port)))
+    (ap (taken_from port) (own_step other (Took port value)) ∙ ap (λ b. cond b (value ∷ []) [] ++ []) (is_same_dir-self port)))
 
 -- what a giver gives to a port, a taker takes on the other side, where the two are the two ends or neither is
 pub meeting_passes : (dir port : Dir) (tile giver reader taker : ℕ) (value : ℤ) → (port ≡ dir → giver ≡ tile → taker ≡ reader) → (port ≡ dir → taker ≡ reader → giver ≡ tile) → given_to dir (step_at tile giver (Gave port value)) ≡ taken_from (opposite dir) (step_at reader taker (Took (opposite port) value))
 meeting_passes dir port tile giver reader taker value to_reader to_tile =
     elim (cases_Bool (is_same_dir port dir)) [
-      | inl same ↦ let is : port ≡ dir = same_dir port dir same in elim (cases_eq giver tile) [
+      | inl same ↦ let is : port ≡ dir = is_same_dir-true port dir same in elim (cases_eq giver tile) [
         | inl here ↦ gives_here dir tile giver port value here is ∙ sym (takes_here (opposite dir) reader taker (opposite port) value (to_reader is here) (ap opposite is))
         | inr elsewhere ↦ neither (λ at is. elsewhere at) (λ at is. elsewhere (to_tile is at))
       ]
@@ -127,7 +113,7 @@ meeting_passes dir port tile giver reader taker value to_reader to_tile =
   where
     -- directions that fail the test differ
     apart : is_same_dir port dir ≡ false → port ≡ dir → ⊥
-    apart other is = let same : is_same_dir port dir ≡ true = ap (is_same_dir port) (sym is) ∙ same_self port in cc (other, same)
+    apart other is = let same : is_same_dir port dir ≡ true = ap (is_same_dir port) (sym is) ∙ is_same_dir-self port in cc (other, same)
 
     -- two directions with one opposite are one
     back : opposite port ≡ opposite dir → port ≡ dir
