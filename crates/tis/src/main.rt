@@ -9,7 +9,7 @@ use tis_base::{FileStore, OutSink, Sink};
 use tis_cli::{Status, describe, tool};
 
 const HELP: &str = "\
-tis: the TIS-100 as a proved compiler
+tis: compiles networks of processes to programs for the TIS-100
 
 tis compile NET SAVE   compiles the network in the file NET to a save in the file SAVE
 tis --help             prints this text
