@@ -7,7 +7,7 @@ use Rattle.tis_asm.specs.declared.instr.Source.TheVariants as from
 use Rattle.tis_asm.specs.declared.instr.Dest.TheVariants as to
 use Rattle.tis_asm.specs.declared.instr.Instr.{Instr}
 use Rattle.tis_asm.specs.declared.instr.Instr.TheVariants.{Mov, Add, Sub, Neg}
-use Rattle.tis_asm.specs.declared.program.Line.{Line}
+use Rattle.tis_asm.specs.declared.program.MarkedInstr.{MarkedInstr}
 use Rattle.tis_asm.specs.Code.{code_text}
 use Rattle.tis_asm.specs.Assembling.{BadLine, assembled}
 use Rattle.tis_asm.specs.Node.{Node, Ready, Writing, One, can_local, local_step, take_value}
@@ -15,11 +15,11 @@ use Rattle.tis_asm.specs.Node.{Node, Ready, Writing, One, can_local, local_step,
 -- ---- texts
 
 -- an instruction without a mark
-abbrev plain : Instr → Line
+abbrev plain : Instr → MarkedInstr
 plain instr = record { instr = instr; mark = false }
 
 -- a value comes in, is made smaller by 5, changes its sign and goes out
-abbrev negated : List Line
+abbrev negated : List MarkedInstr
 negated = plain (Mov (from.Port Up) to.Acc) ∷ plain (Add (from.Number (negsuc 4))) ∷ plain Neg ∷ plain (Mov from.Acc (to.Port Down)) ∷ []
 
 read_negated : assembled (codes "MOV UP, ACC\nADD -5\nNEG\nMOV ACC, DOWN\n") ≡ Ok negated

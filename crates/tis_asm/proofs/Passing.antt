@@ -4,7 +4,7 @@ use Rattle.std.specs.Prelude.{IsTrue, if◌then◌else◌}
 use Rattle.tis_base.specs.declared.tiles.Dir.{Dir}
 use Rattle.tis_base.specs.declared.tiles.Dir.TheVariants.{Left, Right, Up, Down}
 use Rattle.tis_asm.specs.Node.{Node, Mode, Ready, Writing, One, Any, is_same_dir}
-use Rattle.tis_asm.specs.PortRuns.{Step, Own, Took, Gave, after_steps, IsPortRun, taken_from, given_to, own_count}
+use Rattle.tis_asm.specs.PortRuns.{Step, Local, Took, Gave, after_steps, IsPortRun, taken_from, given_to, local_count}
 use Rattle.tis_asm.specs.Passing.{mov_program, in_hand, WaitsAt, MovesPassValues, EmptyProgramsRest}
 
 -- a test that holds only of the same direction
@@ -39,7 +39,7 @@ chosen false v w e = absurd cc
 record PassesFrom (source dest : Dir) (mode : Mode) (steps : List Step) (node : Node) : Type 0 where
   takes_only : (dir : Dir) → dir ≢ source → taken_from dir steps ≡ []
   gives_only : (dir : Dir) → dir ≢ dest → given_to dir steps ≡ []
-  never_local : own_count steps ≡ 0
+  never_local : local_count steps ≡ 0
   at_first : node.pc ≡ 0
   waits : WaitsAt node.mode dest
   in_order : given_to dest steps ++ in_hand node.mode ≡ in_hand mode ++ taken_from source steps
@@ -78,11 +78,11 @@ passes_from : (source dest : Dir) (mark : Bool) (acc bak : ℤ) (last : Option D
     PassesFrom source dest mode steps (after_steps (mov_program source dest mark) (record { pc = 0; acc = acc; bak = bak; last = last; mode = mode }) steps)
 passes_from source dest mark acc bak last mode [] waits run =
     record { takes_only = λ dir apart. refl; gives_only = λ dir apart. refl; never_local = refl; at_first = refl; waits = waits; in_order = sym (append-nil (in_hand mode)) }
-passes_from source dest mark acc bak last Ready (Own ∷ steps) waits run = absurd (cc run.0)
+passes_from source dest mark acc bak last Ready (Local ∷ steps) waits run = absurd (cc run.0)
 passes_from source dest mark acc bak last Ready (Took port value ∷ steps) waits run =
     then_took source dest port value steps _ run.0 (passes_from source dest mark acc bak last (Writing value (One dest)) steps refl run.1)
 passes_from source dest mark acc bak last Ready (Gave port value ∷ steps) waits run = absurd (cc run.0)
-passes_from source dest mark acc bak last (Writing held (One at)) (Own ∷ steps) waits run = absurd (cc run.0)
+passes_from source dest mark acc bak last (Writing held (One at)) (Local ∷ steps) waits run = absurd (cc run.0)
 passes_from source dest mark acc bak last (Writing held (One at)) (Took port value ∷ steps) waits run = absurd (cc run.0)
 passes_from source dest mark acc bak last (Writing held (One at)) (Gave port value ∷ steps) waits run =
     let given = chosen (is_same_dir at port) held value run.0 in
@@ -98,6 +98,6 @@ moves_pass_values source dest mark steps run =
 -- a node without instructions makes no step
 pub empty_programs_rest : EmptyProgramsRest
 empty_programs_rest [] run = refl
-empty_programs_rest (Own ∷ steps) run = absurd (cc run.0)
+empty_programs_rest (Local ∷ steps) run = absurd (cc run.0)
 empty_programs_rest (Took port value ∷ steps) run = absurd (cc run.0)
 empty_programs_rest (Gave port value ∷ steps) run = absurd (cc run.0)

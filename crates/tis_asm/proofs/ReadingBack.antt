@@ -13,8 +13,8 @@ use Rattle.tis_asm.specs.declared.instr.Dest.{Dest}
 use Rattle.tis_asm.specs.declared.instr.Dest.TheVariants as to
 use Rattle.tis_asm.specs.declared.instr.Instr.{Instr}
 use Rattle.tis_asm.specs.declared.instr.Instr.TheVariants.{Mov, Add, Sub, Neg}
-use Rattle.tis_asm.specs.declared.program.Line.{Line}
-use Rattle.tis_asm.specs.Listing.{SourceHasValue, InstrHasValue, HasValues}
+use Rattle.tis_asm.specs.declared.program.MarkedInstr.{MarkedInstr}
+use Rattle.tis_asm.specs.Programs.{SourceHasValue, InstrHasValue, HasValues}
 use Rattle.tis_asm.specs.Code.{dir_word, source_word, dest_word, instr_text, line_text}
 use Rattle.tis_asm.specs.Assembling.{AsmRefusal, TooManyLines, is_gap, is_filled, words_of, source_of_word, dest_of_word, instrs_of_words, instrs_of_line, is_blank, onto_code, without_blank_end, with_line, program_of, assembled_lines}
 use Rattle.tis_asm.proofs.Numbers.{source_of_word-value, value_is_filled, value_is_whole, value_is_plain}
@@ -87,7 +87,7 @@ words-with_source name source is_name is =
     words-first name (source_word source) 32 is_name refl ∙ ap (λ (rest : List (List ℕ)). name ∷ rest) (words-last (source_word source) (source_is_word source is))
 
 -- the line of an instruction with or without a mark
-abbrev with_mark : Bool → Option Instr → Option (List Line)
+abbrev with_mark : Bool → Option Instr → Option (List MarkedInstr)
 with_mark mark read = option_map (λ (instr : Instr). record { instr = instr; mark = mark } ∷ []) read
 
 -- the words of an instruction are read as that instruction
@@ -113,7 +113,7 @@ marked-read false (Sub source) is = instr-read false (Sub source) is
 marked-read false Neg is = refl
 
 -- what is written of a line is read as that line
-pub line-read : (line : Line) → InstrHasValue line.instr → instrs_of_line (line_text line) ≡ Some (line ∷ [])
+pub line-read : (line : MarkedInstr) → InstrHasValue line.instr → instrs_of_line (line_text line) ≡ Some (line ∷ [])
 line-read line is = marked-read line.mark line.instr is
 
 -- a line isn't blank, marked or not
@@ -125,7 +125,7 @@ marked_is_filled false (Sub source) = refl
 marked_is_filled false Neg = refl
 
 -- no line of a program is blank
-pub line_is_filled : (line : Line) → is_blank (line_text line) ≡ false
+pub line_is_filled : (line : MarkedInstr) → is_blank (line_text line) ≡ false
 line_is_filled line = marked_is_filled line.mark line.instr
 
 -- no name of a direction has LF or CR in it
@@ -162,17 +162,17 @@ marked_is_plain true instr is = instr_is_plain instr is
 marked_is_plain false instr is = instr_is_plain instr is
 
 -- no line of a program has LF or CR in it
-pub line_is_plain : (line : Line) → InstrHasValue line.instr → is_plain_line (line_text line) ≡ true
+pub line_is_plain : (line : MarkedInstr) → InstrHasValue line.instr → is_plain_line (line_text line) ≡ true
 line_is_plain line is = marked_is_plain line.mark line.instr is
 
 -- ---- all lines
 
 -- the lines of a program are read as that program
-program-read : (number : ℕ) (program : List Line) → HasValues program → program_of number (map line_text program) ≡ Ok program
+program-read : (number : ℕ) (program : List MarkedInstr) → HasValues program → program_of number (map line_text program) ≡ Ok program
 program-read number [] are = refl
 program-read number (line ∷ program) are =
-    ap (λ (read : Option (List Line)). with_line number read (program_of (number + 1) (map line_text program))) (line-read line are.0)
-    ∙ ap (λ (rest : Result (List Line) AsmRefusal). with_line number (Some (line ∷ [])) rest) (program-read (number + 1) program are.1)
+    ap (λ (read : Option (List MarkedInstr)). with_line number read (program_of (number + 1) (map line_text program))) (line-read line are.0)
+    ∙ ap (λ (rest : Result (List MarkedInstr) AsmRefusal). with_line number (Some (line ∷ [])) rest) (program-read (number + 1) program are.1)
 
 -- blank lines at the end are no code
 blanks_gone : (blanks : List (List ℕ)) → list_all is_blank blanks ≡ true → without_blank_end blanks ≡ []
@@ -187,13 +187,13 @@ onto_code-filled line [] filled = ap (λ (b : Bool). cond b [] (line ∷ [])) fi
 onto_code-filled line (next ∷ lines) filled = refl
 
 -- the code of a program ends with its last instruction
-code_stays : (program : List Line) (blanks : List (List ℕ)) → list_all is_blank blanks ≡ true → without_blank_end (map line_text program ++ blanks) ≡ map line_text program
+code_stays : (program : List MarkedInstr) (blanks : List (List ℕ)) → list_all is_blank blanks ≡ true → without_blank_end (map line_text program ++ blanks) ≡ map line_text program
 code_stays [] blanks blank = blanks_gone blanks blank
 code_stays (line ∷ program) blanks blank =
     ap (onto_code (line_text line)) (code_stays program blanks blank) ∙ onto_code-filled (line_text line) (map line_text program) (line_is_filled line)
 
 -- every line of a program is plain
-pub program_is_plain : (program : List Line) → HasValues program → list_all is_plain_line (map line_text program) ≡ true
+pub program_is_plain : (program : List MarkedInstr) → HasValues program → list_all is_plain_line (map line_text program) ≡ true
 program_is_plain [] are = refl
 program_is_plain (line ∷ program) are = and_from (is_plain_line (line_text line)) (list_all is_plain_line (map line_text program)) (line_is_plain line are.0) (program_is_plain program are.1)
 

@@ -13,7 +13,7 @@ use Rattle.tis_asm.specs.declared.instr.Dest.{Dest}
 use Rattle.tis_asm.specs.declared.instr.Dest.TheVariants as to
 use Rattle.tis_asm.specs.declared.instr.Instr.{Instr}
 use Rattle.tis_asm.specs.declared.instr.Instr.TheVariants.{Mov, Add, Sub, Neg}
-use Rattle.tis_asm.specs.declared.program.Line.{Line}
+use Rattle.tis_asm.specs.declared.program.MarkedInstr.{MarkedInstr}
 
 -- why a text is no program
 pub data AsmRefusal : Type 0 where
@@ -97,11 +97,11 @@ abbrev pub without_mark : List ℕ → List ℕ
 without_mark line = if is_marked line then drop 1 line else line
 
 -- the instructions of a line, one or none, where it is a line of a program
-abbrev pub instrs_of_words : Bool → List (List ℕ) → Option (List Line)
+abbrev pub instrs_of_words : Bool → List (List ℕ) → Option (List MarkedInstr)
 instrs_of_words mark [] = Some []
 instrs_of_words mark (word ∷ words) = option_map (λ instr. record { instr = instr; mark = mark } ∷ []) (instr_of_words (word ∷ words))
 
-abbrev pub instrs_of_line : List ℕ → Option (List Line)
+abbrev pub instrs_of_line : List ℕ → Option (List MarkedInstr)
 instrs_of_line line = instrs_of_words (is_marked line) (words_of (without_mark line))
 
 abbrev pub is_blank : List ℕ → Bool
@@ -117,20 +117,20 @@ abbrev pub without_blank_end : List (List ℕ) → List (List ℕ)
 without_blank_end [] = []
 without_blank_end (line ∷ lines) = onto_code line (without_blank_end lines)
 
-abbrev pub with_line : ℕ → Option (List Line) → Result (List Line) AsmRefusal → Result (List Line) AsmRefusal
+abbrev pub with_line : ℕ → Option (List MarkedInstr) → Result (List MarkedInstr) AsmRefusal → Result (List MarkedInstr) AsmRefusal
 with_line number None rest = Err (BadLine number)
 with_line number (Some instrs) (Ok program) = Ok (instrs ++ program)
 with_line number (Some instrs) (Err refusal) = Err refusal
 
 -- the instructions of these lines, the first of which has this number
-abbrev pub program_of : ℕ → List (List ℕ) → Result (List Line) AsmRefusal
+abbrev pub program_of : ℕ → List (List ℕ) → Result (List MarkedInstr) AsmRefusal
 program_of number [] = Ok []
 program_of number (line ∷ lines) = with_line number (instrs_of_line line) (program_of (number + 1) lines)
 
 -- the program of these lines: at most fifteen of them, and each is a line of a program
-abbrev pub assembled_lines : List (List ℕ) → Result (List Line) AsmRefusal
+abbrev pub assembled_lines : List (List ℕ) → Result (List MarkedInstr) AsmRefusal
 assembled_lines lines = if nat_lt 15 (length (without_blank_end lines)) then Err TooManyLines else program_of 1 (without_blank_end lines)
 
 -- the program of a text
-abbrev pub assembled : List ℕ → Result (List Line) AsmRefusal
+abbrev pub assembled : List ℕ → Result (List MarkedInstr) AsmRefusal
 assembled text = assembled_lines (text_lines text)

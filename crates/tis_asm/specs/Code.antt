@@ -10,7 +10,7 @@ use Rattle.tis_asm.specs.declared.instr.Dest.{Dest}
 use Rattle.tis_asm.specs.declared.instr.Dest.TheVariants as to
 use Rattle.tis_asm.specs.declared.instr.Instr.{Instr}
 use Rattle.tis_asm.specs.declared.instr.Instr.TheVariants.{Mov, Add, Sub, Neg}
-use Rattle.tis_asm.specs.declared.program.Line.{Line}
+use Rattle.tis_asm.specs.declared.program.MarkedInstr.{MarkedInstr}
 
 abbrev pub dir_word : Dir → List ℕ
 dir_word Left = codes "LEFT"
@@ -35,8 +35,8 @@ instr_text Neg = codes "NEG"
 instr_text (Mov source dest) = codes "MOV " ++ source_word source ++ codes ", " ++ dest_word dest
 
 -- a marked instruction has `!` in front
-abbrev pub line_text : Line → List ℕ
+abbrev pub line_text : MarkedInstr → List ℕ
 line_text line = (if line.mark then codes "!" else []) ++ instr_text line.instr
 
-abbrev pub code_text : List Line → List ℕ
+abbrev pub code_text : List MarkedInstr → List ℕ
 code_text program = text_of_lines (map line_text program)

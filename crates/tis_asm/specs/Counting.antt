@@ -1,7 +1,7 @@
 -- How many steps there are.
 use Rattle.std.specs.Prelude.{◌≡◌, ℕ, ◌+◌, List, length}
 use Rattle.tis_base.specs.declared.tiles.Dir.TheVariants.{Left, Right, Up, Down}
-use Rattle.tis_asm.specs.PortRuns.{Step, taken_from, given_to, own_count}
+use Rattle.tis_asm.specs.PortRuns.{Step, taken_from, given_to, local_count}
 
 -- how many values these steps took
 abbrev pub taken_count : List Step → ℕ
@@ -13,4 +13,4 @@ given_count steps = length (given_to Left steps) + length (given_to Right steps)
 
 -- each step is local, or takes a value, or gives one
 abbrev pub StepsAddUp : Type 0
-StepsAddUp = (steps : List Step) → length steps ≡ own_count steps + taken_count steps + given_count steps
+StepsAddUp = (steps : List Step) → length steps ≡ local_count steps + taken_count steps + given_count steps

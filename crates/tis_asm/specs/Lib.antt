@@ -1,4 +1,4 @@
-pub mod Listing
+pub mod Programs
 pub mod Code
 pub mod Assembling
 pub mod Node

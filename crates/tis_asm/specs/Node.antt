@@ -9,7 +9,7 @@ use Rattle.tis_asm.specs.declared.instr.Dest.{Dest}
 use Rattle.tis_asm.specs.declared.instr.Dest.TheVariants as to
 use Rattle.tis_asm.specs.declared.instr.Instr.{Instr}
 use Rattle.tis_asm.specs.declared.instr.Instr.TheVariants.{Mov, Add, Sub, Neg}
-use Rattle.tis_asm.specs.declared.program.Line.{Line}
+use Rattle.tis_asm.specs.declared.program.MarkedInstr.{MarkedInstr}
 
 -- where a value is written to: one port, or the first neighbour that reads
 pub data Toward : Type 0 where
@@ -41,21 +41,21 @@ is_same_dir Down Down = true
 is_same_dir _ _ = false
 
 -- the instruction at a number, where the program has one
-abbrev pub instr_at : List Line → ℕ → Option Instr
-instr_at program pc = option_map (λ line. line.instr) (slice_get program pc)
+abbrev pub instr_at : List MarkedInstr → ℕ → Option Instr
+instr_at program pc = option_map (λ marked. marked.instr) (slice_get program pc)
 
 -- the number of the next instruction: after the last one the first follows
-abbrev pub next_of : List Line → ℕ → ℕ
+abbrev pub next_of : List MarkedInstr → ℕ → ℕ
 next_of program pc = if nat_lt (pc + 1) (length program) then pc + 1 else 0
 
 -- ready, at the next instruction
-abbrev pub goes_on : List Line → Node → Node
+abbrev pub goes_on : List MarkedInstr → Node → Node
 goes_on program node = record node { pc = next_of program node.pc; mode = Ready }
 
 -- a node of this program: its pc is the number of an instruction, and without instructions it is 0 and the node is ready
-abbrev pub FitsProgram : List Line → Node → Type 0
+abbrev pub FitsProgram : List MarkedInstr → Node → Type 0
 FitsProgram [] node = (node.pc ≡ 0) × (node.mode ≡ Ready)
-FitsProgram (line ∷ program) node = node.pc < length (line ∷ program)
+FitsProgram (marked ∷ program) node = node.pc < length (marked ∷ program)
 
 -- ---- local steps
 
@@ -78,7 +78,7 @@ can_local_in Ready instr = is_local instr
 can_local_in (Writing value toward) instr = false
 
 -- whether the node can make a local step
-abbrev pub can_local : List Line → Node → Bool
+abbrev pub can_local : List MarkedInstr → Node → Bool
 can_local program node = can_local_in node.mode (instr_at program node.pc)
 
 -- the value of a source that needs no port
@@ -88,12 +88,12 @@ value_of from.Acc node = node.acc
 value_of (from.Port port) node = pos 0
 
 -- a value goes where the instruction says: into ACC, and the node goes on, or to a port, where it waits with the pc as it is
-abbrev pub put_to : Dest → List Line → Node → ℤ → Node
+abbrev pub put_to : Dest → List MarkedInstr → Node → ℤ → Node
 put_to to.Acc program node value = goes_on program (record node { acc = value })
 put_to (to.Port port) program node value = record node { mode = Writing value (One port) }
 
 -- what the instruction does with the value of its source; NEG has none
-abbrev pub with_value : Option Instr → List Line → Node → ℤ → Node
+abbrev pub with_value : Option Instr → List MarkedInstr → Node → ℤ → Node
 with_value None program node value = node
 with_value (Some (Mov source dest)) program node value = put_to dest program node value
 with_value (Some (Add source)) program node value = goes_on program (record node { acc = sat (node.acc +ℤ value) })
@@ -114,7 +114,7 @@ value_at_hand None node = pos 0
 value_at_hand (Some source) node = value_of source node
 
 -- the node after a local step
-abbrev pub local_step : List Line → Node → Node
+abbrev pub local_step : List MarkedInstr → Node → Node
 local_step program node = with_value (instr_at program node.pc) program node (value_at_hand (source_of (instr_at program node.pc)) node)
 
 -- ---- reading from a port
@@ -135,11 +135,11 @@ wants_in Ready instr dir = reads_from instr dir
 wants_in (Writing value toward) instr dir = false
 
 -- whether the node waits for a value from this port
-abbrev pub wants : List Line → Node → Dir → Bool
+abbrev pub wants : List MarkedInstr → Node → Dir → Bool
 wants program node dir = wants_in node.mode (instr_at program node.pc) dir
 
 -- the node after it took a value from a port
-abbrev pub take_value : List Line → Node → Dir → ℤ → Node
+abbrev pub take_value : List MarkedInstr → Node → Dir → ℤ → Node
 take_value program node dir value = with_value (instr_at program node.pc) program node value
 
 -- ---- writing to a port
@@ -160,5 +160,5 @@ last_after (Writing value (One port)) dir last = last
 last_after (Writing value Any) dir last = Some dir
 
 -- the node after it gave its value to a port
-abbrev pub gave : List Line → Node → Dir → Node
+abbrev pub gave : List MarkedInstr → Node → Dir → Node
 gave program node dir = goes_on program (record node { last = last_after node.mode dir node.last })

@@ -4,12 +4,12 @@ use Rattle.tis_base.specs.declared.tiles.Dir.{Dir}
 use Rattle.tis_asm.specs.declared.instr.Source.TheVariants as from
 use Rattle.tis_asm.specs.declared.instr.Dest.TheVariants as to
 use Rattle.tis_asm.specs.declared.instr.Instr.TheVariants.{Mov}
-use Rattle.tis_asm.specs.declared.program.Line.{Line}
+use Rattle.tis_asm.specs.declared.program.MarkedInstr.{MarkedInstr}
 use Rattle.tis_asm.specs.Node.{Node, Mode, Ready, Writing, Toward, One, Any, fresh}
-use Rattle.tis_asm.specs.PortRuns.{Step, after_steps, IsPortRun, taken_from, given_to, own_count}
+use Rattle.tis_asm.specs.PortRuns.{Step, after_steps, IsPortRun, taken_from, given_to, local_count}
 
 -- the program that is one `MOV` from a port to a port
-abbrev pub mov_program : Dir → Dir → Bool → List Line
+abbrev pub mov_program : Dir → Dir → Bool → List MarkedInstr
 mov_program source dest mark = record { instr = Mov (from.Port source) (to.Port dest); mark = mark } ∷ []
 
 -- the value that a node waits to give, if it does
@@ -31,7 +31,7 @@ WaitsAt (Writing value toward) dir = IsOne toward dir
 pub record Passes (source dest : Dir) (steps : List Step) (node : Node) : Type 0 where
   pub takes_only : (dir : Dir) → dir ≢ source → taken_from dir steps ≡ []
   pub gives_only : (dir : Dir) → dir ≢ dest → given_to dir steps ≡ []
-  pub never_local : own_count steps ≡ 0
+  pub never_local : local_count steps ≡ 0
   pub at_first : node.pc ≡ 0
   pub waits : WaitsAt node.mode dest
   pub in_order : given_to dest steps ++ in_hand node.mode ≡ taken_from source steps

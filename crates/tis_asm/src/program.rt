@@ -7,11 +7,11 @@ use arrayvec::ArrayVec;
 use std::marker::Model;
 
 /// How many instructions a program has at most.
-pub const LINES: usize = 15;
+pub const MOST: usize = 15;
 
 /// An instruction, and whether a breakpoint marks it.
 #[derive(Clone, Copy, Debug, PartialEq, Eq, Hash, Default)]
-pub struct Line {
+pub struct MarkedInstr {
     pub instr: Instr,
     pub mark: bool,
 }
@@ -19,16 +19,16 @@ pub struct Line {
 /// The instructions of one node, at most fifteen, in order.
 #[derive(Debug, Drop)]
 pub struct Program {
-    lines: ArrayVec<Line, LINES>,
+    instrs: ArrayVec<MarkedInstr, MOST>,
 }
 
 impl Model for Program {
     ghost use Rattle.std.specs.Prelude.{List};
-    ghost use Rattle.tis_asm.specs.declared.program.Line.{Line};
+    ghost use Rattle.tis_asm.specs.declared.program.MarkedInstr.{MarkedInstr};
 
-    ghost Value = { List Line };
+    ghost Value = { List MarkedInstr };
 
-    ghost view = { λ p. p.lines.items };
+    ghost view = { λ p. p.instrs.items };
 }
 
 impl Program {
@@ -37,7 +37,7 @@ impl Program {
         ensures { result ≡ [] }
     {
         Program {
-            lines: ArrayVec::new(),
+            instrs: ArrayVec::new(),
         }
     }
 
@@ -46,38 +46,38 @@ impl Program {
         ensures len { result ≡ length self.now }
         ensures short { length self.now ≤ 15 }
     {
-        self.lines.len() as u8
+        self.instrs.len() as u8
     }
 
     /// Whether there is no instruction.
     pub fn is_empty(&self) -> bool
         ensures { IsTrue result ↔ (self.now ≡ []) }
     {
-        self.lines.is_empty()
+        self.instrs.is_empty()
     }
 
     // An instruction with its mark.
-    pub(crate) fn line(&self, index: u8) -> Line
+    pub(crate) fn marked_instr(&self, index: u8) -> MarkedInstr
         requires { index < length self.now }
         ensures { slice_get self.now index ≡ Some result }
     {
-        self.lines[index as usize]
+        self.instrs[index as usize]
     }
 
     /// The instruction with a number from 0 on.
     pub fn at(&self, index: u8) -> Instr
         requires { index < length self.now }
-        ensures { option_map (λ line. line.instr) (slice_get self.now index) ≡ Some result }
+        ensures { option_map (λ marked. marked.instr) (slice_get self.now index) ≡ Some result }
     {
-        self.line(index).instr
+        self.marked_instr(index).instr
     }
 
     /// Whether a breakpoint marks the instruction with a number from 0 on.
     pub fn marked(&self, index: u8) -> bool
         requires { index < length self.now }
-        ensures { option_map (λ line. line.mark) (slice_get self.now index) ≡ Some result }
+        ensures { option_map (λ marked. marked.mark) (slice_get self.now index) ≡ Some result }
     {
-        self.line(index).mark
+        self.marked_instr(index).mark
     }
 
     /// One more instruction at the end, with a mark or without one. False, and the program stays as
@@ -87,6 +87,6 @@ impl Program {
         ensures pushed { OnTrue result (self.new ≡ self.old ++ record { instr = instr; mark = mark } ∷ []) }
         ensures unchanged { OnFalse result (self.new ≡ self.old) }
     {
-        self.lines.try_push(Line { instr, mark }).is_ok()
+        self.instrs.try_push(MarkedInstr { instr, mark }).is_ok()
     }
 }

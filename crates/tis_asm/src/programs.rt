@@ -1,7 +1,7 @@
 //! One program for each tile.
 ghost use Rattle.std.specs.Prelude.{◌≡◌, ◌<◌, [], length, replicate, slice_get, slice_set, Some};
 ghost use Rattle.tis_base.specs.Answers.{Gives};
-ghost use Rattle.tis_base.specs.Tiles.{IsOnBoard, IsCompute};
+ghost use Rattle.tis_base.specs.Tiles.{IsOnGrid, IsCompute};
 
 use crate::program::Program;
 use std::alloc::Global;
@@ -16,17 +16,17 @@ pub struct Programs {
 }
 
 impl Model for Programs {
-    ghost use Rattle.tis_asm.specs.Listing.{Listing, IsListing};
+    ghost use Rattle.tis_asm.specs.Programs.{Programs, ArePrograms};
 
-    ghost Value = { Listing };
+    ghost Value = { Programs };
 
     ghost view = { λ p. record { tiles = p.tiles; programs = p.programs.items } };
 
-    ghost invariant = { λ p. IsListing (record { tiles = p.tiles; programs = p.programs.items }) };
+    ghost invariant = { λ p. ArePrograms (record { tiles = p.tiles; programs = p.programs.items }) };
 }
 
 impl Programs {
-    ghost use Rattle.tis_asm.specs.Listing.{IsListing};
+    ghost use Rattle.tis_asm.specs.Programs.{ArePrograms};
 
     /// The empty program on each tile.
     pub fn empty(alloc: Global, tiles: Tiles) -> Result<Programs, NoMemory>
@@ -42,7 +42,7 @@ impl Programs {
 
     /// The program of a tile.
     pub fn of(&self, tile: Tile) -> &Program
-        requires { IsOnBoard self.now.tiles tile.number }
+        requires { IsOnGrid self.now.tiles tile.number }
         ensures { slice_get self.now.programs tile.number ≡ Some result.now }
     {
         &self.programs[tile.number as usize]
@@ -59,7 +59,7 @@ impl Programs {
     /// The tiles.
     pub fn tiles(&self) -> Tiles
         ensures tiles { result ≡ self.now.tiles }
-        ensures listing { IsListing self.now }
+        ensures programs { ArePrograms self.now }
     {
         self.tiles
     }

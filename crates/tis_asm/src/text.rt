@@ -5,7 +5,7 @@ ghost use Rattle.tis_asm.specs.declared.instr.Instr.TheVariants.{Mov};
 ghost use Rattle.tis_asm.specs.Code.{dir_word, source_word, dest_word, instr_text, line_text, code_text};
 
 use crate::instr::{Dest, Instr, Source};
-use crate::program::{Line, Program};
+use crate::program::{MarkedInstr, Program};
 use std::alloc::Global;
 use tis_base::{Dir, NoMemory, push_number};
 
@@ -72,14 +72,14 @@ fn push_instr(out: &mut Vec<u8>, instr: Instr) -> Result<(), NoMemory>
     }
 }
 
-// Writes a line of a program behind what is there.
-fn push_line(out: &mut Vec<u8>, line: Line) -> Result<(), NoMemory>
-    ensures { OnOk result (out.new.items ≡ out.old.items ++ line_text line) }
+// Writes the line of an instruction behind what is there.
+fn push_line(out: &mut Vec<u8>, marked: MarkedInstr) -> Result<(), NoMemory>
+    ensures { OnOk result (out.new.items ≡ out.old.items ++ line_text marked) }
 {
-    if line.mark {
+    if marked.mark {
         out.push(b'!')?;
     }
-    push_instr(out, line.instr)
+    push_instr(out, marked.instr)
 }
 
 /// The canonical text of a program: a line for each instruction, in capitals, with `, ` between the
@@ -89,7 +89,7 @@ pub fn print(alloc: Global, program: &Program) -> Result<Vec<u8>, NoMemory>
 {
     let mut out = Vec::new(alloc);
     for index in 0..program.len() {
-        push_line(&mut out, program.line(index))?;
+        push_line(&mut out, program.marked_instr(index))?;
         out.push(b'\n')?;
     }
     Ok(out)

@@ -26,8 +26,8 @@ not_is true is = absurd cc
 not_is false is = refl
 
 -- what joins two that pass passes
-pub list_all-join : {X : Type 0} (test : X → Bool) (front back : List X) → list_all test front ≡ true → list_all test back ≡ true → list_all test (front ++ back) ≡ true
-list_all-join test front back front_passes back_passes = list_all-append test front back ∙ and_from (list_all test front) (list_all test back) front_passes back_passes
+pub list_all-join : {X : Type 0} (test : X → Bool) (prefix back : List X) → list_all test prefix ≡ true → list_all test back ≡ true → list_all test (prefix ++ back) ≡ true
+list_all-join test prefix back prefix_passes back_passes = list_all-append test prefix back ∙ and_from (list_all test prefix) (list_all test back) prefix_passes back_passes
 
 -- a byte that doesn't separate belongs to the first piece
 pieces_step : (separates : ℕ → Bool) (byte : ℕ) (bytes piece : List ℕ) (pieces : List (List ℕ)) → separates byte ≡ false → pieces_where separates bytes ≡ piece ∷ pieces → pieces_where separates (byte ∷ bytes) ≡ (byte ∷ piece) ∷ pieces
@@ -96,7 +96,7 @@ text_lines-text_of_lines lines plain =
     ap (λ (pieces : List (List ℕ)). map without_cr (without_empty_end pieces)) (pieces-text lines plain) ∙ ap (map without_cr) (end_gone lines) ∙ no_crs lines plain
 
 -- the text of the first lines stands before that of the others
-pub text_of_lines-append : (front back : List (List ℕ)) → text_of_lines (front ++ back) ≡ text_of_lines front ++ text_of_lines back
+pub text_of_lines-append : (prefix back : List (List ℕ)) → text_of_lines (prefix ++ back) ≡ text_of_lines prefix ++ text_of_lines back
 text_of_lines-append [] back = refl
-text_of_lines-append (line ∷ front) back =
-    ap (λ (text : List ℕ). line ++ 10 ∷ text) (text_of_lines-append front back) ∙ sym (append_assoc line (10 ∷ text_of_lines front) (text_of_lines back))
+text_of_lines-append (line ∷ prefix) back =
+    ap (λ (text : List ℕ). line ++ 10 ∷ text) (text_of_lines-append prefix back) ∙ sym (append_assoc line (10 ∷ text_of_lines prefix) (text_of_lines back))

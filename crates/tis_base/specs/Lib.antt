@@ -4,7 +4,7 @@ pub mod Lines
 pub mod Prefix
 pub mod Outside
 pub mod Answers
-pub mod Growing
+pub mod Values
 pub mod Counts
 pub mod MemStore
 pub mod MemSink

@@ -20,6 +20,6 @@ with_text texts name bytes = map.insert texts name bytes
 abbrev pub Rose : ℕ → ℕ → Type 0
 Rose before now = (before < now) ⊎ (now ≡ 2 ^ 64 - 1)
 
--- what was written, where it is told, is as before with some front part of these bytes behind it
-abbrev pub WroteFront : Option (List ℕ) → List ℕ → Option (List ℕ) → Type 0
-WroteFront old bytes new = (front rest : List ℕ) × (bytes ≡ front ++ rest) × (new ≡ option_map (λ written. written ++ front) old)
+-- what was written, where it is told, is as before with some prefix of these bytes behind it
+abbrev pub WrotePrefix : Option (List ℕ) → List ℕ → Option (List ℕ) → Type 0
+WrotePrefix old bytes new = (prefix rest : List ℕ) × (bytes ≡ prefix ++ rest) × (new ≡ option_map (λ written. written ++ prefix) old)

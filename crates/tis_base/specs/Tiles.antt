@@ -7,7 +7,7 @@ use Rattle.tis_base.specs.declared.tiles.TileKind.{TileKind}
 use Rattle.tis_base.specs.declared.tiles.TileKind.TheVariants.{Compute, Memory, Damaged}
 
 -- the tiles as contracts see them: a shape, and one kind for each tile in reading order
-pub record Board : Type 0 where
+pub record Tiles : Type 0 where
   pub shape : Shape
   pub kinds : List TileKind
 
@@ -16,13 +16,13 @@ abbrev pub IsAllowed : Shape → Type 0
 IsAllowed shape = (shape.columns ≡ 4) × (shape.rows ≡ 3)
 
 -- the shape is allowed, and each of its tiles has one kind
-pub record IsBoard (shape : Shape) (kinds : List TileKind) : Type 0 where
+pub record AreTiles (shape : Shape) (kinds : List TileKind) : Type 0 where
   pub allowed : IsAllowed shape
   pub filled : length kinds ≡ shape.columns * shape.rows
 
 -- the tile with this number is there
-abbrev pub IsOnBoard : Board → ℕ → Type 0
-IsOnBoard board tile = tile < length board.kinds
+abbrev pub IsOnGrid : Tiles → ℕ → Type 0
+IsOnGrid board tile = tile < length board.kinds
 
 abbrev pub is_compute : TileKind → Bool
 is_compute Compute = true
@@ -30,11 +30,11 @@ is_compute Memory = false
 is_compute Damaged = false
 
 -- the tile with this number is there and is a compute tile
-abbrev pub IsCompute : Board → ℕ → Type 0
+abbrev pub IsCompute : Tiles → ℕ → Type 0
 IsCompute board tile = slice_get board.kinds tile ≡ Some Compute
 
 -- how many compute tiles stand before this one: the number of its block in a save
-abbrev pub block_of : Board → ℕ → ℕ
+abbrev pub block_of : Tiles → ℕ → ℕ
 block_of board tile = count_by is_compute (take tile board.kinds)
 
 -- the direction from the other side

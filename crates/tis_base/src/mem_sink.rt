@@ -1,6 +1,6 @@
 //! A sink in memory.
 ghost use Rattle.std.specs.Prelude.{◌≡◌, ◌≢◌, ◌↔◌, ◌++◌, ◌≤◌, [], Contains, pos, Some, OnOk, OnErr, IsErrOf};
-ghost use Rattle.tis_base.specs.Outside.{Rose, WroteFront};
+ghost use Rattle.tis_base.specs.Outside.{Rose, WrotePrefix};
 ghost use Rattle.tis_base.specs.Counts.{one_more};
 
 use crate::calls::Calls;
@@ -67,7 +67,7 @@ impl Sink for MemSink {
         ensures ok { OnOk result (self.new.written ≡ self.old.written ++ bytes.now) }
         ensures err { OnErr result (self.new.written ≡ self.old.written) }
         ensures failed { IsErrOf result SinkError.Failed
-            → WroteFront (Some self.old.written) bytes.now (Some self.new.written) }
+            → WrotePrefix (Some self.old.written) bytes.now (Some self.new.written) }
         ensures failed_as_told { IsErrOf result SinkError.Failed
             ↔ Contains self.old.failing (pos self.old.calls) }
 

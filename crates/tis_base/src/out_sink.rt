@@ -1,6 +1,6 @@
 //! Standard output as a sink.
 ghost use Rattle.std.specs.Prelude.{◌≡◌, ◌≤◌, None, OnOk, OnErr, IsErrOf, IsOkUnless};
-ghost use Rattle.tis_base.specs.Outside.{Rose, WroteFront};
+ghost use Rattle.tis_base.specs.Outside.{Rose, WrotePrefix};
 ghost use Rattle.tis_base.specs.Counts.{one_more};
 
 use crate::sink::{Sink, SinkError};
@@ -40,7 +40,7 @@ impl<R: Print> Sink for OutSink<'_, R> {
     /// Prints these bytes. Anything that goes wrong is a fault, after which some of them may have
     /// been printed. It keeps no byte back, so there is nothing to flush.
     fn put(&mut self, bytes: &[u8]) -> Result<(), SinkError>
-        ensures failed { IsErrOf result SinkError.Failed → WroteFront None bytes.now None }
+        ensures failed { IsErrOf result SinkError.Failed → WrotePrefix None bytes.now None }
         ensures only_failed { IsOkUnless result SinkError.Failed }
         ensures faults_rise { OnErr result (self.new ≡ one_more self.old) }
         ensures faults_stay { OnOk result (self.new ≡ self.old) }

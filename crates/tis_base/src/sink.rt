@@ -1,6 +1,6 @@
 //! The outside that takes a report.
 ghost use Rattle.std.specs.Prelude.{◌≡◌, ◌≢◌, ◌≤◌, ◌++◌, ℕ, List, Option, option_map, IfSome, OnOk, IsErrOf};
-ghost use Rattle.tis_base.specs.Outside.{Rose, WroteFront};
+ghost use Rattle.tis_base.specs.Outside.{Rose, WrotePrefix};
 ghost use Rattle.tis_base.specs.declared.sink.SinkError.TheVariants.{NoMemory as no_memory};
 
 use crate::memory::NoMemory;
@@ -50,7 +50,7 @@ pub trait Sink {
     /// Writes these bytes behind those that were written before.
     fn put(&mut self, bytes: &[u8]) -> Result<(), SinkError>
         ensures ok { OnOk result (written self.new ≡ option_map (λ w. w ++ bytes.now) (written self.old)) }
-        ensures failed { IsErrOf result SinkError.Failed → WroteFront (written self.old) bytes.now (written self.new) }
+        ensures failed { IsErrOf result SinkError.Failed → WrotePrefix (written self.old) bytes.now (written self.new) }
         ensures failed_counted { IsErrOf result SinkError.Failed → Rose (faults self.old) (faults self.new) }
         ensures no_memory { IsErrOf result SinkError.NoMemory → written self.new ≡ written self.old }
         ensures faults_never_fall { faults self.old ≤ faults self.new };

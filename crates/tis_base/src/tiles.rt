@@ -45,24 +45,24 @@ pub struct Tiles {
 
 impl Model for Tiles {
     ghost use Rattle.std.specs.Prelude.{◌≡◌, length};
-    ghost use Rattle.tis_base.specs.Tiles.{Board, IsBoard};
+    ghost use Rattle.tis_base.specs.Tiles.{Tiles, AreTiles};
 
-    ghost Value = { Board };
+    ghost Value = { Tiles };
 
     ghost view = { λ t. record { shape = t.shape; kinds = t.kinds } };
 
-    ghost invariant = { λ t. IsBoard t.shape t.kinds };
+    ghost invariant = { λ t. AreTiles t.shape t.kinds };
 
     ghost inverse = { λ b. record { shape = b.shape; kinds = b.kinds } };
 }
 
 impl Tiles {
-    ghost use Rattle.tis_base.specs.Tiles.{IsBoard, IsOnBoard, neighbour_of, is_compute};
+    ghost use Rattle.tis_base.specs.Tiles.{AreTiles, IsOnGrid, neighbour_of, is_compute};
 
     /// The tiles of this shape with these kinds in reading order. None where the shape isn't four
     /// columns by three rows, or where it has another number of tiles than there are kinds.
     pub fn new(shape: Shape, kinds: &[TileKind]) -> Option<Tiles>
-        ensures made { IsSome result ↔ IsBoard shape kinds.now }
+        ensures made { IsSome result ↔ AreTiles shape kinds.now }
         ensures tiles { IfSome result (λ t. t ≡ record { shape = shape; kinds = kinds.now }) }
     {
         if shape.columns != 4 || shape.rows != 3 || kinds.len() != TILES {
@@ -76,14 +76,14 @@ impl Tiles {
     /// The number of columns and of rows.
     pub fn shape(&self) -> Shape
         ensures shape { result ≡ self.now.shape }
-        ensures board { IsBoard self.now.shape self.now.kinds }
+        ensures board { AreTiles self.now.shape self.now.kinds }
     {
         self.shape
     }
 
     /// What stands on a tile.
     pub fn kind(&self, tile: Tile) -> TileKind
-        requires { IsOnBoard self.now tile.number }
+        requires { IsOnGrid self.now tile.number }
         ensures { slice_get self.now.kinds tile.number ≡ Some result }
     {
         self.kinds[tile.number as usize]
@@ -91,7 +91,7 @@ impl Tiles {
 
     /// The tile that is next in a direction, or None where no tile is there.
     pub fn neighbour(&self, tile: Tile, dir: Dir) -> Option<Tile>
-        requires { IsOnBoard self.now tile.number }
+        requires { IsOnGrid self.now tile.number }
         ensures { option_map (λ t. t.number) result ≡ neighbour_of self.now.shape tile.number dir }
     {
         let Shape { columns, rows } = self.shape;

@@ -14,9 +14,9 @@ pub struct Values {
 
 impl Model for Values {
     ghost use Rattle.std.specs.Prelude.{◌-◌, vec_len, vec_capacity};
-    ghost use Rattle.tis_base.specs.Growing.{Growing};
+    ghost use Rattle.tis_base.specs.Values.{Values};
 
-    ghost Value = { Growing };
+    ghost Value = { Values };
 
     ghost view = { λ v. record { items = v.values.items; spare = vec_capacity v.values - vec_len v.values } };
 }

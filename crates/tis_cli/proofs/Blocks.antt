@@ -8,9 +8,9 @@ use Rattle.std.proofs.lemmas.List.Sums.{count_by_more_no, count_by_more_yes}
 use Rattle.std.proofs.lemmas.Option.{slice_get_within, get_or_from_slice_get}
 use Rattle.tis_base.specs.declared.tiles.TileKind.{TileKind}
 use Rattle.tis_base.specs.declared.tiles.TileKind.TheVariants.{Damaged}
-use Rattle.tis_base.specs.Tiles.{Board, is_compute, block_of}
-use Rattle.tis_asm.specs.declared.program.Line.{Line}
-use Rattle.tis_asm.specs.Listing.{Listing}
+use Rattle.tis_base.specs.Tiles.{Tiles, is_compute, block_of}
+use Rattle.tis_asm.specs.declared.program.MarkedInstr.{MarkedInstr}
+use Rattle.tis_asm.specs.Programs.{Programs}
 use Rattle.tis_cli.specs.Saves.{block_text, tile_text}
 
 range_push : (a n : ℕ) → range_with_len a (suc n) ≡ range_with_len a n ++ (a + n) ∷ []
@@ -30,15 +30,15 @@ one_more true kinds tile lt is = count_by_more_yes is_compute kinds tile Damaged
 one_more false kinds tile lt is = count_by_more_no is_compute kinds tile Damaged lt is ∙ omega arith
 
 -- the number of the block behind a tile
-pub block_of-next : (board : Board) (tile : ℕ) (kind : TileKind) → slice_get board.kinds tile ≡ Some kind → block_of board (tile + 1) ≡ block_of board tile + cond (is_compute kind) 1 0
+pub block_of-next : (board : Tiles) (tile : ℕ) (kind : TileKind) → slice_get board.kinds tile ≡ Some kind → block_of board (tile + 1) ≡ block_of board tile + cond (is_compute kind) 1 0
 block_of-next board tile kind found =
     one_more (is_compute kind) board.kinds tile (slice_get_within board.kinds tile kind found) (ap is_compute (get_or_from_slice_get board.kinds tile kind Damaged found))
 
 -- the block that was written is that of the tile
-pub written_block : (listing : Listing) (tile block : ℕ) (program : List Line) → slice_get listing.programs tile ≡ Some program → block ≡ block_of listing.tiles tile → block_text (64 ∷ decimal block) program ≡ tile_text listing tile
-written_block listing tile block program found is =
+pub written_block : (programs : Programs) (tile block : ℕ) (program : List MarkedInstr) → slice_get programs.programs tile ≡ Some program → block ≡ block_of programs.tiles tile → block_text (64 ∷ decimal block) program ≡ tile_text programs tile
+written_block programs tile block program found is =
     ap (λ (b : ℕ). block_text (64 ∷ decimal b) program) is
-    ∙ ap (block_text (64 ∷ decimal (block_of listing.tiles tile))) (sym (get_or_from_slice_get listing.programs tile program [] found))
+    ∙ ap (block_text (64 ∷ decimal (block_of programs.tiles tile))) (sym (get_or_from_slice_get programs.programs tile program [] found))
 
 -- a block's number is at most its tile's
 pub at_most_one_more : (test : Bool) (after before bound : ℕ) → after ≡ before + cond test 1 0 → before ≤ bound → after ≤ bound + 1

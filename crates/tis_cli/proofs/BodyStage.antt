@@ -36,11 +36,11 @@ local_few own taken size body steps few small all = omega (arith, mul-le-mul_lef
 behaves_after : (read written : Name) (body : List Statement) (value_of : ℤ → ℤ) (size : ℕ) (steps : List Step) (node : Node) → size ≤ length body → RunStands body value_of size steps node →
     SendsAll read written value_of (length body) (taken_from Up steps) (beginning (stream_of read (taken_from Up steps))) (process_over body read (taken_from Up steps)) → BehavesAfter (code_of body) (process_over body read (taken_from Up steps)) read written steps node
 behaves_after read written body value_of size steps node small run sends =
-    let in_order : given_to Down steps ++ run.later ≡ (process_over body read (taken_from Up steps)).doing.sent written = run.in_order ∙ sym sends.sent in
+    let in_order : given_to Down steps ++ run.later ≡ (process_over body read (taken_from Up steps)).state.sent written = run.in_order ∙ sym sends.sent in
     record {
       takes_above = run.takes_above;
       gives_below = run.gives_below;
-      front = (run.later, in_order);
+      prefix = (run.later, in_order);
       waits = λ waits. (sends.waits, all_given _ _ _ in_order (run.stands.waits waits));
       next = λ value offers. next_given _ _ _ value in_order (run.stands.gives value offers);
       local = local_few _ (length (taken_from Up steps)) size (length body) _ run.local small (omega (arith, sends.steps));
@@ -70,15 +70,15 @@ works_as body value_of size steps node run =
     record {
       takes_above = run.takes_above;
       gives_below = run.gives_below;
-      front = (run.later, run.in_order);
+      prefix = (run.later, run.in_order);
       whole = λ waits. all_given _ _ _ run.in_order (run.stands.waits waits);
       next = run.stands.next;
       local = run.local;
     }
 
--- a front of the values gives a front of the results
-pub map_front : (value_of : ℤ → ℤ) (front whole : List ℤ) → IsPrefixOf front whole → IsPrefixOf (map value_of front) (map value_of whole)
-map_front value_of front whole is_front = (map value_of is_front.0, sym (map-append value_of front is_front.0) ∙ ap (map value_of) is_front.1)
+-- a prefix of the values gives a prefix of the results
+pub map_prefix : (value_of : ℤ → ℤ) (prefix whole : List ℤ) → IsPrefixOf prefix whole → IsPrefixOf (map value_of prefix) (map value_of whole)
+map_prefix value_of prefix whole is_prefix = (map value_of is_prefix.0, sym (map-append value_of prefix is_prefix.0) ∙ ap (map value_of) is_prefix.1)
 
 -- the stage of a body
 abbrev pub round_stage : {read written : Name} {body : List Statement} → Round read written body → Stage
@@ -89,7 +89,7 @@ round_stage {body = body} round =
       most_local = λ count. round_local round * count;
       is_stage = record {
         works = λ steps run. works_as body (round_value round) (round_local round) steps (after_steps (code_of body) fresh steps) (run_stands round steps run);
-        keeps_fronts = map_front (round_value round);
+        keeps_prefixes = map_prefix (round_value round);
         no_longer = λ values. omega (arith, length-map values (round_value round));
         grows = λ few many le. mul-le-mul_left (round_local round) le;
       };

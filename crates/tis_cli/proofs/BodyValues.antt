@@ -1,6 +1,6 @@
 -- The numbers in the code of a process of a column are values.
 use Rattle.std.proofs.Common.{List, [], ◌∷◌, ◌++◌, sym, subst}
-use Rattle.tis_asm.specs.Listing.{InstrHasValue, HasValues}
+use Rattle.tis_asm.specs.Programs.{InstrHasValue, HasValues}
 use Rattle.tis_cli.specs.Net.{Name, X, Statement, Get, Put, PutNumber, Move, Set, Add, Sub, Neg, Double}
 use Rattle.tis_cli.specs.Column.{IsOperation, SendsOn, AreOperations, IsBody}
 use Rattle.tis_cli.specs.Compiled.{statement_code, code_of}

@@ -8,7 +8,7 @@ use Rattle.std.proofs.lemmas.List.Sums.{sum_by-cons}
 use Rattle.tis_grid.specs.Puzzle.{Input, values_at}
 use Rattle.tis_cli.specs.Net.{Name, Statement, ChannelLine, Process, Net}
 use Rattle.tis_cli.specs.Process.{Streams, reads, block_cost, beginning}
-use Rattle.tis_cli.specs.Kahn.{input_streams, readable, read_count, step_limit, run_of, joined, streams_from, kahn_streams, kahn_at, all_steps, bound}
+use Rattle.tis_cli.specs.Kahn.{input_streams, readable, read_count, step_limit, run_of, joined, streams_from, kahn_streams, kahn_at, step_limits, bound}
 use Rattle.tis_cli.specs.Column.{StandInLine, channel_of, Column, links_below, IsColumn, column_net}
 use Rattle.tis_cli.specs.Stage.{made_by, most_steps}
 use Rattle.tis_cli.proofs.Bodies.{Round, Moves, Computes, round_value, round_of}
@@ -107,16 +107,16 @@ run_sends net streams process {read = read} round known =
     sends_all round (streams read) (step_limit net streams process + 1) (beginning streams) (omega arith) refl
 
 -- what the process sends stands on the name that it writes
-on_written : (net : Net) (streams : Streams) (process : Process) {read written : Name} (round : Round read written process.body) → IsIn read (readable net) → streams written ≡ [] → joined streams (run_of net streams process).doing.sent written ≡ map (round_value round) (streams read)
+on_written : (net : Net) (streams : Streams) (process : Process) {read written : Name} (round : Round read written process.body) → IsIn read (readable net) → streams written ≡ [] → joined streams (run_of net streams process).state.sent written ≡ map (round_value round) (streams read)
 on_written net streams process {written = written} round known none =
     let sends = run_sends net streams process round known in
-    ap (λ (front : List ℤ). front ++ (run_of net streams process).doing.sent written) none ∙ sends.sent
+    ap (λ (prefix : List ℤ). prefix ++ (run_of net streams process).state.sent written) none ∙ sends.sent
 
 -- names that nobody wrote stay empty
-still_empty : (net : Net) (streams : Streams) (process : Process) {read written : Name} (round : Round read written process.body) → IsIn read (readable net) → (name : Name) → name ≢ written → streams name ≡ [] → joined streams (run_of net streams process).doing.sent name ≡ []
+still_empty : (net : Net) (streams : Streams) (process : Process) {read written : Name} (round : Round read written process.body) → IsIn read (readable net) → (name : Name) → name ≢ written → streams name ≡ [] → joined streams (run_of net streams process).state.sent name ≡ []
 still_empty net streams process round known name apart none =
     let sends = run_sends net streams process round known in
-    both_empty (streams name) ((run_of net streams process).doing.sent name) none (sends.others name apart)
+    both_empty (streams name) ((run_of net streams process).state.sent name) none (sends.others name apart)
 
 -- the last name of a line has what all its stages make of the first
 line_makes : (net : Net) (tile : ℕ) (read : Name) (names : List Name) (processes : List Process) (line : StandInLine tile read names processes) (streams : Streams) →
@@ -125,7 +125,7 @@ line_makes : (net : Net) (tile : ℕ) (read : Name) (names : List Name) (process
 line_makes net tile read [] [] line streams known differ fresh = refl
 line_makes net tile read (written ∷ names) (process ∷ processes) line streams known differ fresh =
     let round = round_of read written process.body line.0.body in
-    let next : Streams = joined streams (run_of net streams process).doing.sent in
+    let next : Streams = joined streams (run_of net streams process).state.sent in
     let later = line_makes net (tile + 4) written names processes line.1 next known.1 differ.1 (λ name among. still_empty net streams process round known.0 name (differ.0 name among) (fresh name (inr among))) in
     later ∙ ap (made_by (line_stages (tile + 4) written names processes line.1)) (on_written net streams process round known.0 (fresh written (inl refl)))
 line_makes net tile read [] (process ∷ processes) line streams known differ fresh = absurd line
@@ -135,7 +135,7 @@ line_makes net tile read (written ∷ names) [] line streams known differ fresh 
 streams_grow : (net : Net) (processes : List Process) (streams : Streams) (name : Name) → length (streams name) ≤ length (streams_from net processes streams name)
 streams_grow net [] streams name = omega arith
 streams_grow net (process ∷ processes) streams name =
-    let sent = (run_of net streams process).doing.sent in
+    let sent = (run_of net streams process).state.sent in
     omega (arith, streams_grow net processes (joined streams sent) name, length-append (streams name) (sent name))
 
 -- the most steps of a process, where at least so many values stand on the name that it reads
@@ -152,7 +152,7 @@ line_bound : (net : Net) (tile : ℕ) (read : Name) (names : List Name) (process
 line_bound net tile read [] [] line streams count known many = omega arith
 line_bound net tile read (written ∷ names) (process ∷ processes) line streams count known many =
     let round = round_of read written process.body line.0.body in
-    let sent = (run_of net streams process).doing.sent in
+    let sent = (run_of net streams process).state.sent in
     let last : Streams = streams_from net processes (joined streams sent) in
     let sends = run_sends net streams process round known.0 in
     let all : length (sent written) ≡ length (streams read) = ap length sends.sent ∙ length-map (streams read) (round_value round) in
@@ -207,5 +207,5 @@ bound-column column inputs is_column =
     let came : count ≤ length (input_streams net.inputs inputs column.input) = omega (arith, ap length (input-column column inputs)) in
     let within = line_bound net column.position column.input (links_below column) column.processes is_column.in_line (input_streams net.inputs inputs) count (column_known column) came in
     let some : 0 < length stages = omega (arith, length-line_stages column.position column.input (links_below column) column.processes is_column.in_line, is_column.some) in
-    room_for_all (most_steps (column_stages column is_column) count) (most_steps stages count) (most_steps (replicate rows pass_stage) count) rows count (all_steps net inputs)
+    room_for_all (most_steps (column_stages column is_column) count) (most_steps stages count) (most_steps (replicate rows pass_stage) count) rows count (step_limits net inputs)
     (most_steps-append stages (replicate rows pass_stage) count) (most_steps-passes rows count) (omega arith) (most_steps-some stages count some) within

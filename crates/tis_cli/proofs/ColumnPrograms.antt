@@ -10,16 +10,16 @@ use Rattle.tis_base.specs.Tiles.{IsCompute, neighbour_of}
 use Rattle.tis_base.specs.declared.tiles.TileKind.{TileKind}
 use Rattle.tis_base.specs.declared.tiles.TileKind.TheVariants.{Compute}
 use Rattle.tis_base.specs.declared.tiles.Dir.TheVariants.{Down}
-use Rattle.tis_asm.specs.declared.program.Line.{Line}
-use Rattle.tis_asm.specs.Listing.{IsListing, HasValues, program_at}
+use Rattle.tis_asm.specs.declared.program.MarkedInstr.{MarkedInstr}
+use Rattle.tis_asm.specs.Programs.{ArePrograms, HasValues, program_at}
 use Rattle.tis_grid.specs.Puzzle.{Puzzle, Input, Output, IsPuzzle}
 use Rattle.tis_grid.specs.State.{Grid, IsGrid}
 use Rattle.tis_grid.specs.Events.{program_of}
 use Rattle.tis_cli.specs.Net.{Name, Process}
-use Rattle.tis_cli.specs.Column.{StandInLine, Column, links_below, IsColumn, plain_board, column_net}
+use Rattle.tis_cli.specs.Column.{StandInLine, Column, links_below, IsColumn, plain_tiles, column_net}
 use Rattle.tis_cli.specs.Compiled.{statement_code, code_of, pass_code, passes, stands_at, process_code_at, program_for, compiled}
 use Rattle.tis_cli.specs.Carries.{grid_with}
-use Rattle.tis_cli.specs.Stage.{Stage, StandsOn, StandDown, IsAmong, IsStack}
+use Rattle.tis_cli.specs.Stage.{Stage, StandsOn, StandDown, IsAmong, IsPipeline}
 use Rattle.tis_cli.proofs.Bodies.{body_short}
 use Rattle.tis_cli.proofs.BodyValues.{body_values}
 use Rattle.tis_cli.proofs.PassStage.{pass_stage}
@@ -28,7 +28,7 @@ use Rattle.tis_cli.proofs.ColumnStages.{line_stages, length-line_stages, column_
 -- ---- what the compiler puts on each tile
 
 -- what stands on a tile without a process
-abbrev link_code : Column → ℕ → List Line
+abbrev link_code : Column → ℕ → List MarkedInstr
 link_code column tile = if list_any (λ port. passes port tile) (column_net column).outputs then pass_code else []
 
 -- a tile that the output passes
@@ -64,12 +64,12 @@ column_programs column is_column =
     (subst (λ (rows : ℕ). HavePrograms (program_for (column_net column)) (column.position + 4 * rows) (replicate (3 - count) pass_stage)) (sym (length-line_stages column.position column.input (links_below column) column.processes is_column.in_line)) below)
 
 -- a choice between code and what stands there otherwise is short, where both are
-choice_short : (stands : Bool) (code other : List Line) (lower : Option (List Line)) → length code ≤ 15 → length (unwrap_or lower other) ≤ 15 → length (unwrap_or (if stands then Some code else lower) other) ≤ 15
+choice_short : (stands : Bool) (code other : List MarkedInstr) (lower : Option (List MarkedInstr)) → length code ≤ 15 → length (unwrap_or lower other) ≤ 15 → length (unwrap_or (if stands then Some code else lower) other) ≤ 15
 choice_short true code other lower here below = here
 choice_short false code other lower here below = below
 
 -- the code of each process is short
-code_short : (tile : ℕ) (read : Name) (names : List Name) (processes : List Process) → StandInLine tile read names processes → (other : List Line) → length other ≤ 15 → (at : ℕ) → length (unwrap_or (process_code_at processes at) other) ≤ 15
+code_short : (tile : ℕ) (read : Name) (names : List Name) (processes : List Process) → StandInLine tile read names processes → (other : List MarkedInstr) → length other ≤ 15 → (at : ℕ) → length (unwrap_or (process_code_at processes at) other) ≤ 15
 code_short tile read [] [] line other short at = short
 code_short tile read (written ∷ names) (process ∷ processes) line other short at =
     let here : length (code_of process.body) ≤ 15 = omega (arith, length-map process.body statement_code, body_short read written process.body line.0.body) in
@@ -83,12 +83,12 @@ link_short true = omega arith
 link_short false = omega arith
 
 -- a choice between code and what stands there otherwise has values, where both have
-choice_values : (stands : Bool) (code other : List Line) (lower : Option (List Line)) → HasValues code → HasValues (unwrap_or lower other) → HasValues (unwrap_or (if stands then Some code else lower) other)
+choice_values : (stands : Bool) (code other : List MarkedInstr) (lower : Option (List MarkedInstr)) → HasValues code → HasValues (unwrap_or lower other) → HasValues (unwrap_or (if stands then Some code else lower) other)
 choice_values true code other lower here below = here
 choice_values false code other lower here below = below
 
 -- the numbers in the code of each process are values
-code_values : (tile : ℕ) (read : Name) (names : List Name) (processes : List Process) → StandInLine tile read names processes → (other : List Line) → HasValues other → (at : ℕ) → HasValues (unwrap_or (process_code_at processes at) other)
+code_values : (tile : ℕ) (read : Name) (names : List Name) (processes : List Process) → StandInLine tile read names processes → (other : List MarkedInstr) → HasValues other → (at : ℕ) → HasValues (unwrap_or (process_code_at processes at) other)
 code_values tile read [] [] line other are at = are
 code_values tile read (written ∷ names) (process ∷ processes) line other are at =
     choice_values (stands_at process.at at) (code_of process.body) other (process_code_at processes at) (body_values read written process.body line.0.body) (code_values (tile + 4) written names processes line.1 other are at)
@@ -104,18 +104,18 @@ link_values false = tt
 
 -- a puzzle on twelve compute tiles
 abbrev pub plain_puzzle : List Input → List Output → Puzzle
-plain_puzzle inputs outputs = record { tiles = plain_board; inputs = inputs; outputs = outputs }
+plain_puzzle inputs outputs = record { tiles = plain_tiles; inputs = inputs; outputs = outputs }
 
 -- the grid of such a puzzle and of the programs of a column
 abbrev pub column_grid : Column → List Input → List Output → Grid
 column_grid column inputs outputs = grid_with (plain_puzzle inputs outputs) (compiled (column_net column))
 
 -- each of the twelve tiles computes
-is_compute-plain : (tile : ℕ) → tile < 12 → IsCompute plain_board tile
+is_compute-plain : (tile : ℕ) → tile < 12 → IsCompute plain_tiles tile
 is_compute-plain tile inside = slice_get-get_or (replicate 12 Compute) tile Compute inside ∙ ap (λ (kind : TileKind). Some kind) (get_or-replicate 12 tile Compute Compute inside)
 
 -- the tile below is there
-next-plain : (tile : ℕ) → tile < 8 → neighbour_of plain_board.shape tile Down ≡ Some (tile + 4)
+next-plain : (tile : ℕ) → tile < 8 → neighbour_of plain_tiles.shape tile Down ≡ Some (tile + 4)
 next-plain tile above = let inside : tile + 4 < 12 = omega arith in rw (lt-ltb (tile + 4) 12 inside) refl
 
 -- the program of a tile of the grid
@@ -157,7 +157,7 @@ among_or_apart column inputs outputs tile first (stage ∷ stages) =
     apart_here first rows tile elsewhere apart (suc row) few e = apart row (omega arith) (omega arith)
 
 -- the stages stand down the column, and no other tile has instructions
-pub column_stack : (column : Column) (inputs : List Input) (outputs : List Output) → IsColumn column → (stage : Stage) (stages : List Stage) → HavePrograms (program_for (column_net column)) column.position (stage ∷ stages) → length stages ≡ 2 → IsStack (column_grid column inputs outputs) column.position stage stages
+pub column_stack : (column : Column) (inputs : List Input) (outputs : List Output) → IsColumn column → (stage : Stage) (stages : List Stage) → HavePrograms (program_for (column_net column)) column.position (stage ∷ stages) → length stages ≡ 2 → IsPipeline (column_grid column inputs outputs) column.position stage stages
 column_stack column inputs outputs is_column stage stages programs all =
     record {
       inside = is_column.position;
@@ -176,27 +176,27 @@ column_stack column inputs outputs is_column stage stages programs all =
 program-short : (column : Column) (inputs : List Input) (outputs : List Output) (tile : ℕ) → IsColumn column → length (program_of (column_grid column inputs outputs) tile) ≤ 15
 program-short column inputs outputs tile is_column =
     elim (cases_lt tile 12) [
-      | inl inside ↦ subst (λ (p : List Line). length p ≤ 15) (sym (program-inside column inputs outputs tile inside))
+      | inl inside ↦ subst (λ (p : List MarkedInstr). length p ≤ 15) (sym (program-inside column inputs outputs tile inside))
           (code_short column.position column.input (links_below column) column.processes is_column.in_line (link_code column tile) (link_short (list_any (λ port. passes port tile) (column_net column).outputs)) tile)
-      | inr outside ↦ subst (λ (p : List Line). length p ≤ 15) (sym (program-outside column inputs outputs tile outside)) (omega arith)
+      | inr outside ↦ subst (λ (p : List MarkedInstr). length p ≤ 15) (sym (program-outside column inputs outputs tile outside)) (omega arith)
     ]
 
 -- the numbers in each program of the grid are values
 program-values : (column : Column) (inputs : List Input) (outputs : List Output) (tile : ℕ) → IsColumn column → HasValues (program_of (column_grid column inputs outputs) tile)
 program-values column inputs outputs tile is_column =
     elim (cases_lt tile 12) [
-      | inl inside ↦ subst (λ (p : List Line). HasValues p) (sym (program-inside column inputs outputs tile inside))
+      | inl inside ↦ subst (λ (p : List MarkedInstr). HasValues p) (sym (program-inside column inputs outputs tile inside))
           (code_values column.position column.input (links_below column) column.processes is_column.in_line (link_code column tile) (link_values (list_any (λ port. passes port tile) (column_net column).outputs)) tile)
-      | inr outside ↦ subst (λ (p : List Line). HasValues p) (sym (program-outside column inputs outputs tile outside)) tt
+      | inr outside ↦ subst (λ (p : List MarkedInstr). HasValues p) (sym (program-outside column inputs outputs tile outside)) tt
     ]
 
 -- so are those in the programs of a column
 pub column_values : (column : Column) → IsColumn column → (tile : ℕ) → HasValues (program_at (compiled (column_net column)).programs tile)
 column_values column is_column tile = program-values column [] [] tile is_column
 
--- the programs of a column are a listing
-pub column_is_listing : (column : Column) → IsColumn column → IsListing (compiled (column_net column))
-column_is_listing column is_column =
+-- the programs of a column are a programs
+pub column_are_programs : (column : Column) → IsColumn column → ArePrograms (compiled (column_net column))
+column_are_programs column is_column =
     record {
       one_each = refl;
       short = λ tile. program-short column [] [] tile is_column;
@@ -205,4 +205,4 @@ column_is_listing column is_column =
 
 -- the programs are for the tiles
 pub column_is_grid : (column : Column) (inputs : List Input) (outputs : List Output) → IsColumn column → IsPuzzle (plain_puzzle inputs outputs) → IsGrid (column_grid column inputs outputs)
-column_is_grid column inputs outputs is_column is_puzzle = record { puzzle = is_puzzle; programs = column_is_listing column is_column }
+column_is_grid column inputs outputs is_column is_puzzle = record { puzzle = is_puzzle; programs = column_are_programs column is_column }

@@ -4,7 +4,7 @@ use Rattle.std.specs.Prelude.{◌==◌, unwrap_or}
 use Rattle.std.specs.List.{list_any}
 use Rattle.std.proofs.lemmas.Bool.{eq-eqb, ne_eqb, or_right}
 use Rattle.std.proofs.lemmas.List.{length-replicate}
-use Rattle.tis_asm.specs.declared.program.Line.{Line}
+use Rattle.tis_asm.specs.declared.program.MarkedInstr.{MarkedInstr}
 use Rattle.tis_cli.specs.Net.{Name, Process}
 use Rattle.tis_cli.specs.Column.{StandInLine, tiles_below, Column, links_below, IsColumn}
 use Rattle.tis_cli.specs.Compiled.{code_of, process_code_at}
@@ -38,9 +38,9 @@ length-column_stages column is_column =
     omega (arith, length-append stages (replicate (3 - length column.processes) pass_stage), length-line_stages column.position column.input (links_below column) column.processes is_column.in_line, length-replicate (3 - length column.processes) pass_stage, is_column.few)
 
 -- what stages make, one part behind the other
-pub made_by-append : (front back : List Stage) (values : List ℤ) → made_by (front ++ back) values ≡ made_by back (made_by front values)
+pub made_by-append : (prefix back : List Stage) (values : List ℤ) → made_by (prefix ++ back) values ≡ made_by back (made_by prefix values)
 made_by-append [] back values = refl
-made_by-append (stage ∷ front) back values = made_by-append front back (stage.makes values)
+made_by-append (stage ∷ prefix) back values = made_by-append prefix back (stage.makes values)
 
 -- tiles that pass values on change nothing
 pub made_by-passes : (rows : ℕ) (values : List ℤ) → made_by (replicate rows pass_stage) values ≡ values
@@ -48,9 +48,9 @@ made_by-passes zero values = refl
 made_by-passes (suc rows) values = made_by-passes rows values
 
 -- the most steps of stages, one part behind the other
-pub most_steps-append : (front back : List Stage) (count : ℕ) → most_steps (front ++ back) count ≡ most_steps front count + most_steps back count
+pub most_steps-append : (prefix back : List Stage) (count : ℕ) → most_steps (prefix ++ back) count ≡ most_steps prefix count + most_steps back count
 most_steps-append [] back count = omega arith
-most_steps-append (stage ∷ front) back count = omega (arith, most_steps-append front back count)
+most_steps-append (stage ∷ prefix) back count = omega (arith, most_steps-append prefix back count)
 
 -- the most steps of tiles that pass values on
 pub most_steps-passes : (rows count : ℕ) → most_steps (replicate rows pass_stage) count ≡ (count + count) * rows
@@ -82,18 +82,18 @@ no_code first read [] (process ∷ processes) line tile apart = absurd line
 no_code first read (written ∷ names) [] line tile apart = absurd line
 
 -- the code of the stages stands tile below tile
-abbrev pub HavePrograms : (ℕ → List Line) → ℕ → List Stage → Type 0
+abbrev pub HavePrograms : (ℕ → List MarkedInstr) → ℕ → List Stage → Type 0
 HavePrograms program tile [] = Unit {0}
 HavePrograms program tile (stage ∷ stages) = (program tile ≡ stage.program) × HavePrograms program (tile + 4) stages
 
 -- one part behind the other
-pub have_programs-append : (program : ℕ → List Line) (tile : ℕ) (front back : List Stage) → HavePrograms program tile front → HavePrograms program (tile + 4 * length front) back → HavePrograms program tile (front ++ back)
+pub have_programs-append : (program : ℕ → List MarkedInstr) (tile : ℕ) (prefix back : List Stage) → HavePrograms program tile prefix → HavePrograms program (tile + 4 * length prefix) back → HavePrograms program tile (prefix ++ back)
 have_programs-append program tile [] back first second = subst (λ (t : ℕ). HavePrograms program t back) (omega arith) second
-have_programs-append program tile (stage ∷ front) back first second =
-    (first.0, have_programs-append program (tile + 4) front back first.1 (subst (λ (t : ℕ). HavePrograms program t back) (omega arith) second))
+have_programs-append program tile (stage ∷ prefix) back first second =
+    (first.0, have_programs-append program (tile + 4) prefix back first.1 (subst (λ (t : ℕ). HavePrograms program t back) (omega arith) second))
 
 -- on the tiles of processes that stand in line there is their code, where no process before them stands there
-pub line_programs : (all : List Process) (other : ℕ → List Line) (tile : ℕ) (read : Name) (names : List Name) (processes : List Process) (line : StandInLine tile read names processes) →
+pub line_programs : (all : List Process) (other : ℕ → List MarkedInstr) (tile : ℕ) (read : Name) (names : List Name) (processes : List Process) (line : StandInLine tile read names processes) →
     ((at : ℕ) → tile ≤ at → process_code_at all at ≡ process_code_at processes at) → HavePrograms (λ at. unwrap_or (process_code_at all at) (other at)) tile (line_stages tile read names processes line)
 line_programs all other tile read [] [] line same = tt
 line_programs all other tile read (written ∷ names) (process ∷ processes) line same =

@@ -2,7 +2,7 @@
 use Rattle.std.proofs.Common.{◌≡◌, ℕ, ℤ, List, [], ◌∷◌, length, Some, sym, subst, ◌∙◌, inl, inr, le_trans, arith}
 use Rattle.std.proofs.lemmas.Bool.{cases_eq}
 use Rattle.tis_base.specs.Prefix.{IsPrefixOf}
-use Rattle.tis_base.specs.Tiles.{Board}
+use Rattle.tis_base.specs.Tiles.{Tiles}
 use Rattle.tis_base.proofs.Prefixes.{prefix_refl}
 use Rattle.tis_grid.specs.declared.event.Event.{Event}
 use Rattle.tis_grid.specs.Puzzle.{Input, Output, IsPuzzle}
@@ -13,9 +13,9 @@ use Rattle.tis_cli.specs.Column.{Column, IsColumn, tiles_below, column_net, NetO
 use Rattle.tis_cli.specs.Net.{Net}
 use Rattle.tis_cli.specs.Compiled.{program_for, compiled}
 use Rattle.tis_cli.specs.Carries.{FitsNet, grid_with, FollowsNet, Carries}
-use Rattle.tis_cli.specs.Stage.{Stage, FollowsStack}
+use Rattle.tis_cli.specs.Stage.{Stage, FollowsPipeline}
 use Rattle.tis_cli.proofs.GridLaws.{GridLaws, every_grid}
-use Rattle.tis_cli.proofs.Stack.{follows_stack}
+use Rattle.tis_cli.proofs.Pipeline.{follows_stack}
 use Rattle.tis_cli.proofs.ColumnStages.{column_stages, length-column_stages, HavePrograms}
 use Rattle.tis_cli.proofs.ColumnKahn.{kahn_at-column, kahn_at-other, bound-column}
 use Rattle.tis_cli.proofs.ColumnPrograms.{column_programs, plain_puzzle, column_grid, column_stack, column_is_grid}
@@ -23,7 +23,7 @@ use Rattle.tis_cli.proofs.ColumnPrograms.{column_programs, plain_puzzle, column_
 -- an order on the grid of a column follows its stages
 follows_stages : GridLaws → (column : Column) → IsColumn column → (inputs : List Input) (outputs : List Output) → IsPuzzle (plain_puzzle inputs outputs) →
     (events : List Event) → IsLegal (column_grid column inputs outputs) (start (column_grid column inputs outputs)) events →
-    (stages : List Stage) → length stages ≡ 3 → HavePrograms (program_for (column_net column)) column.position stages → FollowsStack (column_grid column inputs outputs) column.position stages events
+    (stages : List Stage) → length stages ≡ 3 → HavePrograms (program_for (column_net column)) column.position stages → FollowsPipeline (column_grid column inputs outputs) column.position stages events
 follows_stages laws column is_column inputs outputs is_puzzle events legal [] all programs = absurd (omega arith)
 follows_stages laws column is_column inputs outputs is_puzzle events legal (stage ∷ stages) all programs =
     follows_stack laws (column_grid column inputs outputs) events (column_is_grid column inputs outputs is_column is_puzzle) legal column.position stage stages
@@ -31,13 +31,13 @@ follows_stages laws column is_column inputs outputs is_puzzle events legal (stag
 
 -- what follows the stages follows the network
 from_stack : (column : Column) (inputs : List Input) (outputs : List Output) (events : List Event) (is_column : IsColumn column) → FitsNet (plain_puzzle inputs outputs) (column_net column) →
-    FollowsStack (column_grid column inputs outputs) column.position (column_stages column is_column) events → FollowsNet (column_grid column inputs outputs) (column_net column) events
+    FollowsPipeline (column_grid column inputs outputs) column.position (column_stages column is_column) events → FollowsNet (column_grid column inputs outputs) (column_net column) events
 from_stack column inputs outputs events is_column fits follows =
     let passed_tiles = tiles_below column.position (length column.processes) in
     record {
       prefixes = λ position. elim (cases_eq position column.position) [
         | inl here ↦ subst (λ (p : ℕ). IsPrefixOf (outs (after (column_grid column inputs outputs) (start (column_grid column inputs outputs)) events) p) (kahn_at (column_net column) inputs p)) (sym here)
-            (subst (λ (stream : List ℤ). IsPrefixOf (outs (after (column_grid column inputs outputs) (start (column_grid column inputs outputs)) events) column.position) stream) (sym (kahn_at-column column inputs is_column)) follows.front)
+            (subst (λ (stream : List ℤ). IsPrefixOf (outs (after (column_grid column inputs outputs) (start (column_grid column inputs outputs)) events) column.position) stream) (sym (kahn_at-column column inputs is_column)) follows.prefix)
         | inr elsewhere ↦ prefix_refl _ _ (follows.others position elsewhere ∙ sym (kahn_at-other column inputs position elsewhere))
       ];
       bounded = le_trans follows.bounded (bound-column column inputs is_column);
@@ -59,7 +59,7 @@ carries_plain laws column is_column inputs outputs is_puzzle fits events legal =
 pub column_carries : GridLaws → (column : Column) → IsColumn column → Carries (compiled (column_net column)) (column_net column)
 column_carries laws column is_column puzzle is_puzzle fits =
     subst
-    (λ (tiles : Board). IsPuzzle (record { tiles = tiles; inputs = puzzle.inputs; outputs = puzzle.outputs }) → FitsNet (record { tiles = tiles; inputs = puzzle.inputs; outputs = puzzle.outputs }) (column_net column) →
+    (λ (tiles : Tiles). IsPuzzle (record { tiles = tiles; inputs = puzzle.inputs; outputs = puzzle.outputs }) → FitsNet (record { tiles = tiles; inputs = puzzle.inputs; outputs = puzzle.outputs }) (column_net column) →
     (events : List Event) → IsLegal (grid_with (record { tiles = tiles; inputs = puzzle.inputs; outputs = puzzle.outputs }) (compiled (column_net column))) (start (grid_with (record { tiles = tiles; inputs = puzzle.inputs; outputs = puzzle.outputs }) (compiled (column_net column)))) events →
     FollowsNet (grid_with (record { tiles = tiles; inputs = puzzle.inputs; outputs = puzzle.outputs }) (compiled (column_net column))) (column_net column) events)
     (sym fits.tiles)

@@ -21,9 +21,9 @@ All-first P x xs all = all 0 x (omega arith)
 pub All-others : {X : Type 0} (P : X → Type 0) (x : X) (xs : List X) → All P (x ∷ xs) → All P xs
 All-others P x xs all = λ k d lt. all (suc k) d (omega arith)
 
-pub All-front : {X : Type 0} (P : X → Type 0) (xs : List X) (y : X) → All P (xs ++ y ∷ []) → All P xs
-All-front P [] y all = All-nil P
-All-front P (x ∷ xs) y all = All-cons P x xs (All-first P x (xs ++ y ∷ []) all) (All-front P xs y (All-others P x (xs ++ y ∷ []) all))
+pub All-prefix : {X : Type 0} (P : X → Type 0) (xs : List X) (y : X) → All P (xs ++ y ∷ []) → All P xs
+All-prefix P [] y all = All-nil P
+All-prefix P (x ∷ xs) y all = All-cons P x xs (All-first P x (xs ++ y ∷ []) all) (All-prefix P xs y (All-others P x (xs ++ y ∷ []) all))
 
 pub All-last : {X : Type 0} (P : X → Type 0) (xs : List X) (y : X) → All P (xs ++ y ∷ []) → P y
 All-last P [] y all = All-first P y [] all
@@ -38,10 +38,10 @@ AllPairs-first R x xs pairs = λ k d lt. pairs 0 (suc k) d (omega arith) (omega 
 AllPairs-others : {X : Type 0} (R : X → X → Type 0) (x : X) (xs : List X) → AllPairs R (x ∷ xs) → AllPairs R xs
 AllPairs-others R x xs pairs = λ i j d lt within. pairs (suc i) (suc j) d (omega arith) (omega arith)
 
-AllPairs-front : {X : Type 0} (R : X → X → Type 0) (xs : List X) (y : X) → AllPairs R (xs ++ y ∷ []) → AllPairs R xs
-AllPairs-front R [] y pairs = AllPairs-nil R
-AllPairs-front R (x ∷ xs) y pairs =
-    AllPairs-cons R x xs (All-front (R x) xs y (AllPairs-first R x (xs ++ y ∷ []) pairs)) (AllPairs-front R xs y (AllPairs-others R x (xs ++ y ∷ []) pairs))
+AllPairs-prefix : {X : Type 0} (R : X → X → Type 0) (xs : List X) (y : X) → AllPairs R (xs ++ y ∷ []) → AllPairs R xs
+AllPairs-prefix R [] y pairs = AllPairs-nil R
+AllPairs-prefix R (x ∷ xs) y pairs =
+    AllPairs-cons R x xs (All-prefix (R x) xs y (AllPairs-first R x (xs ++ y ∷ []) pairs)) (AllPairs-prefix R xs y (AllPairs-others R x (xs ++ y ∷ []) pairs))
 
 AllPairs-last : {X : Type 0} (R : X → X → Type 0) (xs : List X) (y : X) → AllPairs R (xs ++ y ∷ []) → All (λ x. R x y) xs
 AllPairs-last R [] y pairs = All-nil _
@@ -117,9 +117,9 @@ links_pairs_again input output channels pairs =
     let ids : map itself channels ≡ channels = map-id channels in
     let last : All (λ c. c ≢ output) channels = AllPairs-last Differ channels output below in
     let input_output : bytes_eq output input ≡ false = not_same output input (All-last (Differ input) channels output first) in
-    let input_channels : is_among input channels ≡ false = ap (is_among input) (sym ids) ∙ among_none itself input channels (All-front (Differ input) channels output first) in
+    let input_channels : is_among input channels ≡ false = ap (is_among input) (sym ids) ∙ among_none itself input channels (All-prefix (Differ input) channels output first) in
     let output_channels : is_among output channels ≡ false = ap (is_among output) (sym ids) ∙ among_none itself output channels (λ k d lt same. last k d lt (sym same)) in
-    let between : all_differ channels ≡ true = ap all_differ (sym ids) ∙ all_differ_again itself channels (AllPairs-front Differ channels output below) in
+    let between : all_differ channels ≡ true = ap all_differ (sym ids) ∙ all_differ_again itself channels (AllPairs-prefix Differ channels output below) in
     rw (input_output, input_channels, output_channels, between) refl
 
 -- ---- columns

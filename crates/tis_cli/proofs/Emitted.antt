@@ -3,7 +3,7 @@ use Rattle.std.proofs.Common.{◌≡◌, ℕ, zero, suc, ◌+◌, ◌*◌, ◌<�
 use Rattle.std.specs.Prelude.{All, IfSome}
 use Rattle.std.proofs.lemmas.List.{length-map}
 use Rattle.std.proofs.lemmas.List.Elements.{All-cons, All-nil}
-use Rattle.tis_asm.specs.Listing.{Listing}
+use Rattle.tis_asm.specs.Programs.{Programs}
 use Rattle.tis_cli.specs.declared.net_syntax.tree.ProcessText as held_process
 use Rattle.tis_cli.specs.declared.net_syntax.tree.PortLine as held_port
 use Rattle.tis_cli.specs.declared.net_syntax.tree.Net as held_net
@@ -11,7 +11,7 @@ use Rattle.tis_cli.specs.Net.{Name, Process, Net}
 use Rattle.tis_cli.specs.Column.{Column, StandInLine, column_net, links_below}
 use Rattle.tis_cli.specs.Compiled.{compiled}
 use Rattle.tis_cli.specs.Emission.{with_processes, with_links}
-use Rattle.tis_cli.specs.Tree.{port_of, process_of, net_of, IsTaken}
+use Rattle.tis_cli.specs.NetView.{port_view, process_view, net_view, IsTaken}
 
 -- the processes, each with the tile that it stands on
 abbrev placed : ℕ → List Process → List Process
@@ -27,7 +27,7 @@ placed_is tile read [] (process ∷ processes) stand = absurd stand
 placed_is tile read (written ∷ names) [] stand = absurd stand
 
 -- the programs that are put on the tiles of a network
-abbrev pub put : Net → Listing
+abbrev pub put : Net → Programs
 put net = record { tiles = net.tiles; programs = with_links net.outputs (with_processes net.processes (replicate (length net.tiles.kinds) [])) }
 
 abbrev column_at : ℕ → Name → Name → List Name → List Process → Column
@@ -76,30 +76,30 @@ put_compiled net taken =
     ap put whole ∙ put_placed column.position column.input column.output column.channels column.processes is.position is.some is.few ∙ sym (ap compiled whole)
 
 -- after the processes and the links were put in their turn
-pub put_is : (net : held_net.Net) (processes : List held_process.ProcessText) (outputs : List held_port.PortLine) (first second third : Listing)
+pub put_is : (net : held_net.Net) (processes : List held_process.ProcessText) (outputs : List held_port.PortLine) (first second third : Programs)
     → first ≡ record { tiles = net.tiles; programs = replicate (length net.tiles.kinds) [] }
-    → processes ≡ net.processes.items → second ≡ record first { programs = with_processes (map process_of processes) first.programs }
-    → outputs ≡ net.outputs.items → third ≡ record second { programs = with_links (map port_of outputs) second.programs }
-    → third ≡ put (net_of net)
+    → processes ≡ net.processes.items → second ≡ record first { programs = with_processes (map process_view processes) first.programs }
+    → outputs ≡ net.outputs.items → third ≡ record second { programs = with_links (map port_view outputs) second.programs }
+    → third ≡ put (net_view net)
 put_is net processes outputs first second third e1 p e2 o e3 = rw (e3, e2, e1, p, o) refl
 
 -- ---- the tiles
 
-stand_on_board : (tile : ℕ) (read : Name) (names : List Name) (processes : List held_process.ProcessText) → StandInLine tile read names (map process_of processes) → tile + 4 * length processes < 16
+stand_on_grid : (tile : ℕ) (read : Name) (names : List Name) (processes : List held_process.ProcessText) → StandInLine tile read names (map process_view processes) → tile + 4 * length processes < 16
     → All (λ process. IfSome process.at (λ at. at < 12)) processes
-stand_on_board tile read [] [] stand lt = All-nil _
-stand_on_board tile read (written ∷ names) (process ∷ processes) stand lt =
+stand_on_grid tile read [] [] stand lt = All-nil _
+stand_on_grid tile read (written ∷ names) (process ∷ processes) stand lt =
     let P : held_process.ProcessText → Type 0 = λ p. IfSome p.at (λ at. at < 12) in
     let low : tile < 12 = omega arith in
-    All-cons P process processes (rw stand.0.at low) (stand_on_board (tile + 4) written names processes stand.1 (omega arith))
-stand_on_board tile read [] (process ∷ processes) stand lt = absurd stand
-stand_on_board tile read (written ∷ names) [] stand lt = All-nil _
+    All-cons P process processes (rw stand.0.at low) (stand_on_grid (tile + 4) written names processes stand.1 (omega arith))
+stand_on_grid tile read [] (process ∷ processes) stand lt = absurd stand
+stand_on_grid tile read (written ∷ names) [] stand lt = All-nil _
 
 -- the processes of a network of the form stand on the board
-pub processes_on_board : (net : Net) (processes : List held_process.ProcessText) → IsTaken net → net.processes ≡ map process_of processes → All (λ process. IfSome process.at (λ at. at < 12)) processes
-processes_on_board net processes taken same =
+pub processes_on_grid : (net : Net) (processes : List held_process.ProcessText) → IsTaken net → net.processes ≡ map process_view processes → All (λ process. IfSome process.at (λ at. at < 12)) processes
+processes_on_grid net processes taken same =
     let column = taken.column in
     let is = taken.is_column in
-    let these : column.processes ≡ map process_of processes = sym (ap (λ (n : Net). n.processes) taken.net_is) ∙ same in
-    let count : length column.processes ≡ length processes = ap length these ∙ length-map processes process_of in
-    stand_on_board column.position column.input (links_below column) processes (subst (StandInLine column.position column.input (links_below column)) these is.in_line) (omega (arith, is.position, is.few))
+    let these : column.processes ≡ map process_view processes = sym (ap (λ (n : Net). n.processes) taken.net_is) ∙ same in
+    let count : length column.processes ≡ length processes = ap length these ∙ length-map processes process_view in
+    stand_on_grid column.position column.input (links_below column) processes (subst (StandInLine column.position column.input (links_below column)) these is.in_line) (omega (arith, is.position, is.few))

@@ -7,7 +7,7 @@ use Rattle.tis_cli.specs.Net.{Net}
 use Rattle.tis_cli.specs.NetText.{net_text}
 use Rattle.tis_cli.specs.Column.{Column, NetOf, column_net}
 use Rattle.tis_cli.specs.Reading.{column_at}
-use Rattle.tis_cli.specs.Tree.{net_of}
+use Rattle.tis_cli.specs.NetView.{net_view}
 use Rattle.tis_cli.proofs.Spelling.{column_is, column_again}
 
 -- the network of a column that was read is that of the text
@@ -19,8 +19,8 @@ of_column text net (Some column) read e =
     record { column = column; is_column = is.0; net_is = sym same; text_is = is.1 ∙ ap net_text same }
 
 -- what was read is the network of the text
-pub found_net : (result : Result held_net.Net NetError) (text : List ℕ) → IfOk result (λ net. option_map column_net (column_at text) ≡ Some (net_of net)) → IfOk result (λ net. NetOf text (net_of net))
-found_net (Ok net) text e = of_column text (net_of net) (column_at text) refl e
+pub found_net : (result : Result held_net.Net NetError) (text : List ℕ) → IfOk result (λ net. option_map column_net (column_at text) ≡ Some (net_view net)) → IfOk result (λ net. NetOf text (net_view net))
+found_net (Ok net) text e = of_column text (net_view net) (column_at text) refl e
 found_net (Err error) text e = tt
 
 never_read : (column : Column) → None ≡ Some column → ⊥

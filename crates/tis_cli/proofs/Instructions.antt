@@ -6,9 +6,9 @@ use Rattle.std.proofs.lemmas.Bool.{lt-ltb, le-ltb}
 use Rattle.tis_base.specs.declared.tiles.Dir.{Dir}
 use Rattle.tis_base.specs.declared.tiles.Dir.TheVariants.{Down}
 use Rattle.tis_asm.specs.declared.instr.Instr.{Instr}
-use Rattle.tis_asm.specs.declared.program.Line.{Line}
+use Rattle.tis_asm.specs.declared.program.MarkedInstr.{MarkedInstr}
 use Rattle.tis_asm.specs.Node.{Node, Mode, Writing, One, instr_at, next_of, goes_on, is_local, can_local_in, source_of, value_at_hand, with_value, reads_from, wants_in, offers_in, gave}
-use Rattle.tis_asm.specs.PortRuns.{Step, Own, Took, Gave, IsStep, after_step}
+use Rattle.tis_asm.specs.PortRuns.{Step, Local, Took, Gave, IsStep, after_step}
 use Rattle.tis_cli.specs.Net.{Name, X, Statement, Get, Put, PutNumber, Move, Set, Add, Sub, Neg, Double}
 use Rattle.tis_cli.specs.Column.{IsOperation, SendsOn}
 use Rattle.tis_cli.specs.Compiled.{statement_code, code_of}
@@ -21,13 +21,13 @@ abbrev pub instr_of : Statement → Option Instr
 instr_of statement = Some (statement_code statement).instr
 
 -- the code behind so many statements
-pub code_behind : (front : List Statement) (statement : Statement) (rest : List Statement) → instr_at (code_of (front ++ statement ∷ rest)) (length front) ≡ instr_of statement
+pub code_behind : (prefix : List Statement) (statement : Statement) (rest : List Statement) → instr_at (code_of (prefix ++ statement ∷ rest)) (length prefix) ≡ instr_of statement
 code_behind [] statement rest = refl
-code_behind (first ∷ front) statement rest = code_behind front statement rest
+code_behind (first ∷ prefix) statement rest = code_behind prefix statement rest
 
 -- the instruction of the statement at which a node stands
-pub instr_here : (body front : List Statement) (statement : Statement) (rest : List Statement) (pc : ℕ) → body ≡ front ++ statement ∷ rest → pc ≡ length front → instr_at (code_of body) pc ≡ instr_of statement
-instr_here body front statement rest pc is_body is_pc = rw (is_body, is_pc) (code_behind front statement rest)
+pub instr_here : (body prefix : List Statement) (statement : Statement) (rest : List Statement) (pc : ℕ) → body ≡ prefix ++ statement ∷ rest → pc ≡ length prefix → instr_at (code_of body) pc ≡ instr_of statement
+instr_here body prefix statement rest pc is_body is_pc = rw (is_body, is_pc) (code_behind prefix statement rest)
 
 -- the next instruction, where there is one more
 pub next-on : (body : List Statement) (pc : ℕ) → pc + 1 < length body → next_of (code_of body) pc ≡ pc + 1
@@ -74,30 +74,30 @@ inner-sends written (Double X) sends = absurd sends
 
 -- a node can make this step
 abbrev pub IsStepIn : Mode → Option Instr → Step → Type 0
-IsStepIn mode instr Own = IsTrue (can_local_in mode instr)
+IsStepIn mode instr Local = IsTrue (can_local_in mode instr)
 IsStepIn mode instr (Took dir value) = IsTrue (wants_in mode instr dir)
 IsStepIn mode instr (Gave dir value) = offers_in mode dir ≡ Some value
 
 -- the node after it
-abbrev pub after_in : Option Instr → List Line → Node → Step → Node
-after_in instr program node Own = with_value instr program node (value_at_hand (source_of instr) node)
+abbrev pub after_in : Option Instr → List MarkedInstr → Node → Step → Node
+after_in instr program node Local = with_value instr program node (value_at_hand (source_of instr) node)
 after_in instr program node (Took dir value) = with_value instr program node value
 after_in instr program node (Gave dir value) = gave program node dir
 
 -- the same step, where mode and instruction are known
-pub step_in : (program : List Line) (node : Node) (mode : Mode) (instr : Option Instr) → node.mode ≡ mode → instr_at program node.pc ≡ instr → (step : Step) → IsStep program node step → IsStepIn mode instr step
-step_in program node mode instr is_mode is_instr Own can = rw (← is_mode, ← is_instr) can
+pub step_in : (program : List MarkedInstr) (node : Node) (mode : Mode) (instr : Option Instr) → node.mode ≡ mode → instr_at program node.pc ≡ instr → (step : Step) → IsStep program node step → IsStepIn mode instr step
+step_in program node mode instr is_mode is_instr Local can = rw (← is_mode, ← is_instr) can
 step_in program node mode instr is_mode is_instr (Took dir value) can = rw (← is_mode, ← is_instr) can
 step_in program node mode instr is_mode is_instr (Gave dir value) can = rw (← is_mode) can
 
 -- and where it leads
-pub step_leads : (program : List Line) (node : Node) (instr : Option Instr) → instr_at program node.pc ≡ instr → (step : Step) → after_step program node step ≡ after_in instr program node step
-step_leads program node instr is_instr Own = rw is_instr refl
+pub step_leads : (program : List MarkedInstr) (node : Node) (instr : Option Instr) → instr_at program node.pc ≡ instr → (step : Step) → after_step program node step ≡ after_in instr program node step
+step_leads program node instr is_instr Local = rw is_instr refl
 step_leads program node instr is_instr (Took dir value) = rw is_instr refl
 step_leads program node instr is_instr (Gave dir value) = refl
 
 -- what an operation does to the node
-pub operation_leads : (statement : Statement) → IsOperation statement → (program : List Line) (node : Node) → after_in (instr_of statement) program node Own ≡ goes_on program (record node { acc = operate statement node.acc })
+pub operation_leads : (statement : Statement) → IsOperation statement → (program : List MarkedInstr) (node : Node) → after_in (instr_of statement) program node Local ≡ goes_on program (record node { acc = operate statement node.acc })
 operation_leads (Set X number) operation program node = refl
 operation_leads (Add X number) operation program node = refl
 operation_leads (Sub X number) operation program node = refl
@@ -109,7 +109,7 @@ operation_leads (PutNumber written number) operation program node = absurd opera
 operation_leads (Move read written) operation program node = absurd operation
 
 -- what a statement that sends does to the node
-pub sends_leads : (written : Name) (statement : Statement) → SendsOn written statement → (program : List Line) (node : Node) → after_in (instr_of statement) program node Own ≡ record node { mode = Writing (sent_by statement node.acc) (One Down) }
+pub sends_leads : (written : Name) (statement : Statement) → SendsOn written statement → (program : List MarkedInstr) (node : Node) → after_in (instr_of statement) program node Local ≡ record node { mode = Writing (sent_by statement node.acc) (One Down) }
 sends_leads written (Put name X) sends program node = refl
 sends_leads written (PutNumber name number) sends program node = refl
 sends_leads written (Get read X) sends program node = absurd sends
@@ -121,7 +121,7 @@ sends_leads written (Neg X) sends program node = absurd sends
 sends_leads written (Double X) sends program node = absurd sends
 
 -- a step from where mode and instruction are known
-pub known_step : (program : List Line) (node : Node) (mode : Mode) (instr : Option Instr) (P : Step → Node → Type 0) → node.mode ≡ mode → instr_at program node.pc ≡ instr →
+pub known_step : (program : List MarkedInstr) (node : Node) (mode : Mode) (instr : Option Instr) (P : Step → Node → Type 0) → node.mode ≡ mode → instr_at program node.pc ≡ instr →
     ((step : Step) → IsStepIn mode instr step → P step (after_in instr program node step)) → (step : Step) → IsStep program node step → P step (after_step program node step)
 known_step program node mode instr P is_mode is_instr known step can =
     subst (P step) (sym (step_leads program node instr is_instr step)) (known step (step_in program node mode instr is_mode is_instr step can))

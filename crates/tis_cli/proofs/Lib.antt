@@ -11,7 +11,7 @@ pub mod Explained
 pub mod Statuses
 pub mod GridLaws
 pub mod PassStage
-pub mod Stack
+pub mod Pipeline
 pub mod Bodies
 pub mod Rounds
 pub mod Instructions

@@ -60,10 +60,10 @@ below_hundred n ge lt =
 
 below_thousand : (n : ℕ) → 100 ≤ n → n < 1000 → Digits n (decimal n)
 below_thousand n ge lt =
-    let front : decimal (n / 10) ≡ (48 + n / 10 / 10) ∷ (48 + n / 10 % 10) ∷ [] =
+    let prefix : decimal (n / 10) ≡ (48 + n / 10 / 10) ∷ (48 + n / 10 % 10) ∷ [] =
     decimal_step (n / 10) (omega arith) (omega arith) ∙ ap (λ (d : List ℕ). d ++ (48 + n / 10 % 10) ∷ []) (decimal_digit (n / 10 / 10) (omega arith)) in
     let text : decimal n ≡ (48 + n / 10 / 10) ∷ (48 + n / 10 % 10) ∷ (48 + n % 10) ∷ [] =
-    decimal_step n (omega arith) (omega arith) ∙ ap (λ (d : List ℕ). d ++ (48 + n % 10) ∷ []) front in
+    decimal_step n (omega arith) (omega arith) ∙ ap (λ (d : List ℕ). d ++ (48 + n % 10) ∷ []) prefix in
     subst (Digits n) (sym text) (three_digits n (n / 10 / 10) (n / 10 % 10) (n % 10) (omega arith) (omega arith) (omega arith) (omega arith))
 
 pub digits_of : (n : ℕ) → n < 1000 → Digits n (decimal n)

@@ -22,9 +22,9 @@ pub goes_on : {A B : Type 0} {read : Option A} {x : A} (next : A → Option B) �
 unfolding followed_by
 goes_on next e = rw e refl
 
--- what stands behind a front can be put otherwise
-pub glue : {whole rest other : List ℕ} (front : List ℕ) → whole ≡ front ++ rest → rest ≡ other → whole ≡ front ++ other
-glue front is rest-is = is ∙ ap (λ (text : List ℕ). front ++ text) rest-is
+-- what stands behind a prefix can be put otherwise
+pub glue : {whole rest other : List ℕ} (prefix : List ℕ) → whole ≡ prefix ++ rest → rest ≡ other → whole ≡ prefix ++ other
+glue prefix is rest-is = is ∙ ap (λ (text : List ℕ). prefix ++ text) rest-is
 
 -- a test that held
 pub test_held : {A : Type 0} (test : Bool) (x y : A) → cond test (Some x) None ≡ Some y → (test ≡ true) × (x ≡ y)
@@ -55,8 +55,8 @@ pub behind_is : (expected bytes rest : List ℕ) → behind expected bytes ≡ S
 unfolding behind
 behind_is expected bytes rest e =
     let held = test_held (bytes_eq (take (length expected) bytes) expected) (drop (length expected) bytes) rest e in
-    let front : take (length expected) bytes ≡ expected = (bytes_eq-Decides _ _).0 held.0 in
-    sym (take-append-drop (length expected) bytes) ∙ ap (λ (text : List ℕ). text ++ drop (length expected) bytes) front ∙ ap (λ (text : List ℕ). expected ++ text) held.1
+    let prefix : take (length expected) bytes ≡ expected = (bytes_eq-Decides _ _).0 held.0 in
+    sym (take-append-drop (length expected) bytes) ∙ ap (λ (text : List ℕ). text ++ drop (length expected) bytes) prefix ∙ ap (λ (text : List ℕ). expected ++ text) held.1
 
 pub behind_again : (expected rest : List ℕ) → behind expected (expected ++ rest) ≡ Some rest
 unfolding behind

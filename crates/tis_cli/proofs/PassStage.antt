@@ -35,7 +35,7 @@ works_as steps node p =
     record {
       takes_above = p.takes_only;
       gives_below = p.gives_only;
-      front = (in_hand node.mode, p.in_order);
+      prefix = (in_hand node.mode, p.in_order);
       whole = nothing_in_hand node.mode node.pc (given_to Down steps) (taken_from Up steps) p.in_order;
       next = next_of_mode node node.mode refl p.at_first p.waits;
       local = omega (arith, p.never_local);
@@ -50,7 +50,7 @@ pass_stage =
       most_local = λ count. 0;
       is_stage = record {
         works = λ steps run. works_as steps _ (moves_pass_values Up Down _ steps run);
-        keeps_fronts = λ front whole is_front. is_front;
+        keeps_prefixes = λ prefix whole is_prefix. is_prefix;
         no_longer = λ values. omega arith;
         grows = λ few many le. omega arith;
       };

@@ -5,9 +5,9 @@ use Rattle.std.proofs.lemmas.List.{map-append}
 use Rattle.tis_base.specs.declared.tiles.Dir.{Dir}
 use Rattle.tis_base.specs.declared.tiles.Dir.TheVariants.{Up, Down}
 use Rattle.tis_asm.specs.declared.instr.Instr.{Instr}
-use Rattle.tis_asm.specs.declared.program.Line.{Line}
+use Rattle.tis_asm.specs.declared.program.MarkedInstr.{MarkedInstr}
 use Rattle.tis_asm.specs.Node.{Node, Ready, Writing, One, is_same_dir, instr_at, next_of, goes_on, is_local, reads_from, wants, offers, fresh}
-use Rattle.tis_asm.specs.PortRuns.{Step, Own, Took, Gave, IsStep, after_step, after_steps, IsPortRun, taken_by, given_by, own_by, taken_from, given_to, own_count}
+use Rattle.tis_asm.specs.PortRuns.{Step, Local, Took, Gave, IsStep, after_step, after_steps, IsPortRun, taken_by, given_by, local_by, taken_from, given_to, local_count}
 use Rattle.tis_asm.proofs.Passing.{chosen, is_same_dir-true, is_same_dir-other}
 use Rattle.tis_cli.specs.Net.{Name, X, Statement, Get, Move}
 use Rattle.tis_cli.specs.Column.{IsOperation, SendsOn}
@@ -21,7 +21,7 @@ use Rattle.tis_cli.proofs.Instructions.{instr_here, next-on, next-first, IsInner
 -- where a node stands in its round, with the value that it will still give in this round, and how many local steps it has left in it
 data Place (written : Name) (body : List Statement) (node : Node) : List ℤ → ℕ → Type 0 where
   AtTop : node.pc ≡ 0 → node.mode ≡ Ready → Place written body node [] 0
-  Within : (front rest : List Statement) (view : Rest written rest) → body ≡ front ++ rest → node.pc ≡ length front → node.mode ≡ Ready → Place written body node (value_sent view node.acc ∷ []) (length rest)
+  Within : (prefix rest : List Statement) (view : Rest written rest) → body ≡ prefix ++ rest → node.pc ≡ length prefix → node.mode ≡ Ready → Place written body node (value_sent view node.acc ∷ []) (length rest)
   Offering : (value : ℤ) → node.mode ≡ Writing value (One Down) → node.pc + 1 ≡ length body → Place written body node (value ∷ []) 0
 
 -- after one step the node stands at a place again
@@ -32,7 +32,7 @@ record StepsTo (written : Name) (body : List Statement) (value_of : ℤ → ℤ)
   takes_above : (dir : Dir) → dir ≢ Up → taken_by dir step ≡ []
   gives_below : (dir : Dir) → dir ≢ Down → given_by dir step ≡ []
   in_order : given_by Down step ++ later ≡ pending ++ map value_of (taken_by Up step)
-  counted : own_by step + to_do ≡ left + size * length (taken_by Up step)
+  counted : local_by step + to_do ≡ left + size * length (taken_by Up step)
 
 -- a value from above is from no other port
 takes_up : (value : ℤ) (dir : Dir) → dir ≢ Up → taken_by dir (Took Up value) ≡ []
@@ -45,7 +45,7 @@ gives_down value dir apart = rw (is_same_dir-other Down dir (λ e. apart (sym e)
 -- a step from the top of a round that moves a value
 top_moves : (read written : Name) (node : Node) → node.pc ≡ 0 → (step : Step) → IsStepIn Ready (instr_of (Move read written)) step →
     StepsTo written (Move read written ∷ []) (λ value. value) 0 [] 0 step (after_in (instr_of (Move read written)) (code_of (Move read written ∷ [])) node step)
-top_moves read written node at_first Own can = absurd (cc can)
+top_moves read written node at_first Local can = absurd (cc can)
 top_moves read written node at_first (Gave dir value) can = absurd (cc can)
 top_moves read written node at_first (Took dir value) can =
     let body = Move read written ∷ [] in
@@ -68,7 +68,7 @@ rest_some (Then statement rest operation later) = omega arith
 -- a step from the top of a round that computes
 top_computes : (read written : Name) (rest : List Statement) (view : Rest written rest) (node : Node) → node.pc ≡ 0 → (step : Step) → IsStepIn Ready (instr_of (Get read X)) step →
     StepsTo written (Get read X ∷ rest) (value_sent view) (length rest) [] 0 step (after_in (instr_of (Get read X)) (code_of (Get read X ∷ rest)) node step)
-top_computes read written rest view node at_first Own can = absurd (cc can)
+top_computes read written rest view node at_first Local can = absurd (cc can)
 top_computes read written rest view node at_first (Gave dir value) can = absurd (cc can)
 top_computes read written rest view node at_first (Took dir value) can =
     let body = Get read X ∷ rest in
@@ -86,16 +86,16 @@ top_computes read written rest view node at_first (Took dir value) can =
     })
 
 -- a step from the last statement
-last_steps : (written : Name) (body front : List Statement) (statement : Statement) (sends : SendsOn written statement) (value_of : ℤ → ℤ) (size : ℕ) (node : Node) → body ≡ front ++ statement ∷ [] → node.pc ≡ length front → IsInner statement → (step : Step) → IsStepIn Ready (instr_of statement) step →
+last_steps : (written : Name) (body prefix : List Statement) (statement : Statement) (sends : SendsOn written statement) (value_of : ℤ → ℤ) (size : ℕ) (node : Node) → body ≡ prefix ++ statement ∷ [] → node.pc ≡ length prefix → IsInner statement → (step : Step) → IsStepIn Ready (instr_of statement) step →
     StepsTo written body value_of size (sent_by statement node.acc ∷ []) 1 step (after_in (instr_of statement) (code_of body) node step)
-last_steps written body front statement sends value_of size node is_body is_pc inner (Took dir value) can = absurd (cc (can, inner.no_port dir))
-last_steps written body front statement sends value_of size node is_body is_pc inner (Gave dir value) can = absurd (cc can)
-last_steps written body front statement sends value_of size node is_body is_pc inner Own can =
-    subst (λ (n : Node). StepsTo written body value_of size (sent_by statement node.acc ∷ []) 1 Own n) (sym (sends_leads written statement sends (code_of body) node))
+last_steps written body prefix statement sends value_of size node is_body is_pc inner (Took dir value) can = absurd (cc (can, inner.no_port dir))
+last_steps written body prefix statement sends value_of size node is_body is_pc inner (Gave dir value) can = absurd (cc can)
+last_steps written body prefix statement sends value_of size node is_body is_pc inner Local can =
+    subst (λ (n : Node). StepsTo written body value_of size (sent_by statement node.acc ∷ []) 1 Local n) (sym (sends_leads written statement sends (code_of body) node))
     (record {
       later = sent_by statement node.acc ∷ [];
       to_do = 0;
-      place = Offering (sent_by statement node.acc) refl (omega (arith, ap length is_body, length-append front (statement ∷ [])));
+      place = Offering (sent_by statement node.acc) refl (omega (arith, ap length is_body, length-append prefix (statement ∷ [])));
       takes_above = λ d apart. refl;
       gives_below = λ d apart. refl;
       in_order = refl;
@@ -103,19 +103,19 @@ last_steps written body front statement sends value_of size node is_body is_pc i
     })
 
 -- a step from an operation
-operation_steps : (written : Name) (body front : List Statement) (statement : Statement) (rest : List Statement) (operation : IsOperation statement) (view : Rest written rest) (value_of : ℤ → ℤ) (size : ℕ) (node : Node) → body ≡ front ++ statement ∷ rest → node.pc ≡ length front → IsInner statement → (step : Step) → IsStepIn Ready (instr_of statement) step →
+operation_steps : (written : Name) (body prefix : List Statement) (statement : Statement) (rest : List Statement) (operation : IsOperation statement) (view : Rest written rest) (value_of : ℤ → ℤ) (size : ℕ) (node : Node) → body ≡ prefix ++ statement ∷ rest → node.pc ≡ length prefix → IsInner statement → (step : Step) → IsStepIn Ready (instr_of statement) step →
     StepsTo written body value_of size (value_sent view (operate statement node.acc) ∷ []) (length (statement ∷ rest)) step (after_in (instr_of statement) (code_of body) node step)
-operation_steps written body front statement rest operation view value_of size node is_body is_pc inner (Took dir value) can = absurd (cc (can, inner.no_port dir))
-operation_steps written body front statement rest operation view value_of size node is_body is_pc inner (Gave dir value) can = absurd (cc can)
-operation_steps written body front statement rest operation view value_of size node is_body is_pc inner Own can =
+operation_steps written body prefix statement rest operation view value_of size node is_body is_pc inner (Took dir value) can = absurd (cc (can, inner.no_port dir))
+operation_steps written body prefix statement rest operation view value_of size node is_body is_pc inner (Gave dir value) can = absurd (cc can)
+operation_steps written body prefix statement rest operation view value_of size node is_body is_pc inner Local can =
     let some = rest_some view in
-    let more : node.pc + 1 < length body = omega (arith, ap length is_body, length-append front (statement ∷ rest)) in
-    let leads : next_of (code_of body) node.pc ≡ length (front ++ statement ∷ []) = next-on body node.pc more ∙ omega (arith, length-append front (statement ∷ [])) in
-    subst (λ (n : Node). StepsTo written body value_of size (value_sent view (operate statement node.acc) ∷ []) (length (statement ∷ rest)) Own n) (sym (operation_leads statement operation (code_of body) node))
+    let more : node.pc + 1 < length body = omega (arith, ap length is_body, length-append prefix (statement ∷ rest)) in
+    let leads : next_of (code_of body) node.pc ≡ length (prefix ++ statement ∷ []) = next-on body node.pc more ∙ omega (arith, length-append prefix (statement ∷ [])) in
+    subst (λ (n : Node). StepsTo written body value_of size (value_sent view (operate statement node.acc) ∷ []) (length (statement ∷ rest)) Local n) (sym (operation_leads statement operation (code_of body) node))
     (record {
       later = value_sent view (operate statement node.acc) ∷ [];
       to_do = length rest;
-      place = Within (front ++ statement ∷ []) rest view (is_body ∙ sym (append_assoc front (statement ∷ []) rest)) leads refl;
+      place = Within (prefix ++ statement ∷ []) rest view (is_body ∙ sym (append_assoc prefix (statement ∷ []) rest)) leads refl;
       takes_above = λ d apart. refl;
       gives_below = λ d apart. refl;
       in_order = refl;
@@ -125,7 +125,7 @@ operation_steps written body front statement rest operation view value_of size n
 -- a step of a node that offers a value
 offering_steps : (written : Name) (body : List Statement) (value_of : ℤ → ℤ) (size : ℕ) (held : ℤ) (instr : Option Instr) (node : Node) → node.pc + 1 ≡ length body → (step : Step) → IsStepIn (Writing held (One Down)) instr step →
     StepsTo written body value_of size (held ∷ []) 0 step (after_in instr (code_of body) node step)
-offering_steps written body value_of size held instr node at_last Own can = absurd (cc can)
+offering_steps written body value_of size held instr node at_last Local can = absurd (cc can)
 offering_steps written body value_of size held instr node at_last (Took dir value) can = absurd (cc can)
 offering_steps written body value_of size held instr node at_last (Gave dir value) can =
     let given = chosen (is_same_dir Down dir) held value can in
@@ -151,20 +151,20 @@ top_steps {read = read} {written = written} (Computes rest view) node at_first i
     known_step (code_of (Get read X ∷ rest)) node Ready (instr_of (Get read X)) (StepsTo written (Get read X ∷ rest) (value_sent view) (length rest) [] 0) is_ready (rw at_first refl) (top_computes read written rest view node at_first)
 
 -- a step from within a round
-within_steps : {written : Name} {rest : List Statement} (view : Rest written rest) (body front : List Statement) (value_of : ℤ → ℤ) (size : ℕ) (node : Node) → body ≡ front ++ rest → node.pc ≡ length front → node.mode ≡ Ready → (step : Step) → IsStep (code_of body) node step →
+within_steps : {written : Name} {rest : List Statement} (view : Rest written rest) (body prefix : List Statement) (value_of : ℤ → ℤ) (size : ℕ) (node : Node) → body ≡ prefix ++ rest → node.pc ≡ length prefix → node.mode ≡ Ready → (step : Step) → IsStep (code_of body) node step →
     StepsTo written body value_of size (value_sent view node.acc ∷ []) (length rest) step (after_step (code_of body) node step)
-within_steps {written = written} (Last statement sends) body front value_of size node is_body is_pc is_ready =
-    known_step (code_of body) node Ready (instr_of statement) (StepsTo written body value_of size (sent_by statement node.acc ∷ []) 1) is_ready (instr_here body front statement [] node.pc is_body is_pc)
-    (last_steps written body front statement sends value_of size node is_body is_pc (inner-sends written statement sends))
-within_steps {written = written} (Then statement rest operation later) body front value_of size node is_body is_pc is_ready =
-    known_step (code_of body) node Ready (instr_of statement) (StepsTo written body value_of size (value_sent later (operate statement node.acc) ∷ []) (length (statement ∷ rest))) is_ready (instr_here body front statement rest node.pc is_body is_pc)
-    (operation_steps written body front statement rest operation later value_of size node is_body is_pc (inner-operation statement operation))
+within_steps {written = written} (Last statement sends) body prefix value_of size node is_body is_pc is_ready =
+    known_step (code_of body) node Ready (instr_of statement) (StepsTo written body value_of size (sent_by statement node.acc ∷ []) 1) is_ready (instr_here body prefix statement [] node.pc is_body is_pc)
+    (last_steps written body prefix statement sends value_of size node is_body is_pc (inner-sends written statement sends))
+within_steps {written = written} (Then statement rest operation later) body prefix value_of size node is_body is_pc is_ready =
+    known_step (code_of body) node Ready (instr_of statement) (StepsTo written body value_of size (value_sent later (operate statement node.acc) ∷ []) (length (statement ∷ rest))) is_ready (instr_here body prefix statement rest node.pc is_body is_pc)
+    (operation_steps written body prefix statement rest operation later value_of size node is_body is_pc (inner-operation statement operation))
 
 -- a step from any place
 place_steps : {read written : Name} {body : List Statement} (round : Round read written body) (node : Node) (pending : List ℤ) (left : ℕ) → Place written body node pending left → (step : Step) → IsStep (code_of body) node step →
     StepsTo written body (round_value round) (round_local round) pending left step (after_step (code_of body) node step)
 place_steps round node pending left (AtTop at_first is_ready) = top_steps round node at_first is_ready
-place_steps {body = body} round node pending left (Within front rest view is_body is_pc is_ready) = within_steps view body front (round_value round) (round_local round) node is_body is_pc is_ready
+place_steps {body = body} round node pending left (Within prefix rest view is_body is_pc is_ready) = within_steps view body prefix (round_value round) (round_local round) node is_body is_pc is_ready
 place_steps {written = written} {body = body} round node pending left (Offering value writes at_last) =
     known_step (code_of body) node (Writing value (One Down)) (instr_at (code_of body) node.pc) (StepsTo written body (round_value round) (round_local round) (value ∷ []) 0) writes refl
     (offering_steps written body (round_value round) (round_local round) value (instr_at (code_of body) node.pc) node at_last)
@@ -179,7 +179,7 @@ pub record RunsTo (written : Name) (body : List Statement) (value_of : ℤ → �
   pub takes_above : (dir : Dir) → dir ≢ Up → taken_from dir steps ≡ []
   pub gives_below : (dir : Dir) → dir ≢ Down → given_to dir steps ≡ []
   pub in_order : given_to Down steps ++ later ≡ pending ++ map value_of (taken_from Up steps)
-  pub counted : own_count steps + to_do ≡ left + size * length (taken_from Up steps)
+  pub counted : local_count steps + to_do ≡ left + size * length (taken_from Up steps)
 
 -- two lists that are empty are empty one behind the other
 pub both_empty : (first second : List ℤ) → first ≡ [] → second ≡ [] → first ++ second ≡ []
@@ -213,13 +213,13 @@ runs_from {body = body} round (step ∷ steps) node pending left place run =
 -- ---- what a place says of the node
 
 -- what the node can do, and what it still has to give
-pub record Stands (program : List Line) (node : Node) (later : List ℤ) : Type 0 where
+pub record Stands (program : List MarkedInstr) (node : Node) (later : List ℤ) : Type 0 where
   pub waits : IsTrue (wants program node Up) → later ≡ []
   pub gives : (value : ℤ) → offers node Down ≡ Some value → later ≡ value ∷ []
   pub next : Next program node
 
 -- a node that is ready
-ready_stands : (program : List Line) (node : Node) (instr : Option Instr) (later : List ℤ) → node.mode ≡ Ready → instr_at program node.pc ≡ instr → is_local instr ≡ true → reads_from instr Up ≡ false → Stands program node later
+ready_stands : (program : List MarkedInstr) (node : Node) (instr : Option Instr) (later : List ℤ) → node.mode ≡ Ready → instr_at program node.pc ≡ instr → is_local instr ≡ true → reads_from instr Up ≡ false → Stands program node later
 ready_stands program node instr later is_ready is_instr local no_port =
     record {
       waits = λ waits. let reads : reads_from instr Up ≡ true = step_in program node Ready instr is_ready is_instr (Took Up node.acc) waits in absurd (cc (reads, no_port));
@@ -228,7 +228,7 @@ ready_stands program node instr later is_ready is_instr local no_port =
     }
 
 -- a node that waits for a value
-top_stands : (program : List Line) (node : Node) (instr : Option Instr) → node.mode ≡ Ready → instr_at program node.pc ≡ instr → reads_from instr Up ≡ true → Stands program node []
+top_stands : (program : List MarkedInstr) (node : Node) (instr : Option Instr) → node.mode ≡ Ready → instr_at program node.pc ≡ instr → reads_from instr Up ≡ true → Stands program node []
 top_stands program node instr is_ready is_instr reads =
     record {
       waits = λ waits. refl;
@@ -237,7 +237,7 @@ top_stands program node instr is_ready is_instr reads =
     }
 
 -- a node that offers a value
-offering_stands : (program : List Line) (node : Node) (value : ℤ) → node.mode ≡ Writing value (One Down) → Stands program node (value ∷ [])
+offering_stands : (program : List MarkedInstr) (node : Node) (value : ℤ) → node.mode ≡ Writing value (One Down) → Stands program node (value ∷ [])
 offering_stands program node value writes =
     record {
       waits = λ waits. absurd (cc (step_in program node (Writing value (One Down)) (instr_at program node.pc) writes refl (Took Up value) waits));
@@ -251,18 +251,18 @@ round_stands {read = read} {written = written} Moves node at_first is_ready = to
 round_stands {read = read} (Computes rest view) node at_first is_ready = top_stands (code_of (Get read X ∷ rest)) node (instr_of (Get read X)) is_ready (rw at_first refl) refl
 
 -- a node within its round
-within_stands : {written : Name} {rest : List Statement} (view : Rest written rest) (body front : List Statement) (node : Node) (later : List ℤ) → body ≡ front ++ rest → node.pc ≡ length front → node.mode ≡ Ready → Stands (code_of body) node later
-within_stands {written = written} (Last statement sends) body front node later is_body is_pc is_ready =
+within_stands : {written : Name} {rest : List Statement} (view : Rest written rest) (body prefix : List Statement) (node : Node) (later : List ℤ) → body ≡ prefix ++ rest → node.pc ≡ length prefix → node.mode ≡ Ready → Stands (code_of body) node later
+within_stands {written = written} (Last statement sends) body prefix node later is_body is_pc is_ready =
     let inner = inner-sends written statement sends in
-    ready_stands (code_of body) node (instr_of statement) later is_ready (instr_here body front statement [] node.pc is_body is_pc) inner.local (inner.no_port Up)
-within_stands (Then statement rest operation view) body front node later is_body is_pc is_ready =
+    ready_stands (code_of body) node (instr_of statement) later is_ready (instr_here body prefix statement [] node.pc is_body is_pc) inner.local (inner.no_port Up)
+within_stands (Then statement rest operation view) body prefix node later is_body is_pc is_ready =
     let inner = inner-operation statement operation in
-    ready_stands (code_of body) node (instr_of statement) later is_ready (instr_here body front statement rest node.pc is_body is_pc) inner.local (inner.no_port Up)
+    ready_stands (code_of body) node (instr_of statement) later is_ready (instr_here body prefix statement rest node.pc is_body is_pc) inner.local (inner.no_port Up)
 
 -- a node at any place
 place_stands : {read written : Name} {body : List Statement} (round : Round read written body) (node : Node) (later : List ℤ) (to_do : ℕ) → Place written body node later to_do → Stands (code_of body) node later
 place_stands round node later to_do (AtTop at_first is_ready) = round_stands round node at_first is_ready
-place_stands {body = body} round node later to_do (Within front rest view is_body is_pc is_ready) = within_stands view body front node _ is_body is_pc is_ready
+place_stands {body = body} round node later to_do (Within prefix rest view is_body is_pc is_ready) = within_stands view body prefix node _ is_body is_pc is_ready
 place_stands {body = body} round node later to_do (Offering value writes at_last) = offering_stands (code_of body) node value writes
 
 -- what holds after any run from the start
@@ -271,7 +271,7 @@ pub record RunStands (body : List Statement) (value_of : ℤ → ℤ) (size : �
   pub takes_above : (dir : Dir) → dir ≢ Up → taken_from dir steps ≡ []
   pub gives_below : (dir : Dir) → dir ≢ Down → given_to dir steps ≡ []
   pub in_order : given_to Down steps ++ later ≡ map value_of (taken_from Up steps)
-  pub local : own_count steps ≤ size * length (taken_from Up steps)
+  pub local : local_count steps ≤ size * length (taken_from Up steps)
   pub stands : Stands (code_of body) node later
 
 -- a run of the code of a body from the start

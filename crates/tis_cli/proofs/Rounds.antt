@@ -5,7 +5,7 @@ use Rattle.std.proofs.lemmas.Bool.{false_from_ne_true}
 use Rattle.std.proofs.lemmas.Slice.Eq.{bytes_eq-Decides}
 use Rattle.tis_cli.specs.Net.{Name, X, Statement, Get, Put, PutNumber, Move, Set, Add, Sub, Neg, Double}
 use Rattle.tis_cli.specs.Column.{IsOperation, SendsOn}
-use Rattle.tis_cli.specs.Process.{Streams, with_stream, Doing, Outcome, WaitsOn, finished, and_then, stepped, does, exec, rounds}
+use Rattle.tis_cli.specs.Process.{Streams, with_stream, ProcessState, Execution, WaitsOn, finished, and_then, stepped, does, exec, rounds}
 use Rattle.tis_cli.proofs.Bodies.{Rest, Last, Then, Round, Moves, Computes, operate, sent_by, value_sent, round_value}
 
 -- a name is the same as itself
@@ -29,112 +29,112 @@ abbrev pub one_more : Streams → Name → ℤ → Streams
 one_more streams name value = with_stream streams name (streams name ++ value ∷ [])
 
 -- an operation changes the variable alone
-operation_does : (statement : Statement) → IsOperation statement → (doing : Doing) → does statement doing ≡ finished (record doing { x = operate statement doing.x })
-operation_does (Set X number) operation doing = refl
-operation_does (Add X number) operation doing = refl
-operation_does (Sub X number) operation doing = refl
-operation_does (Neg X) operation doing = refl
-operation_does (Double X) operation doing = refl
-operation_does (Get read X) operation doing = absurd operation
-operation_does (Put written X) operation doing = absurd operation
-operation_does (PutNumber written number) operation doing = absurd operation
-operation_does (Move read written) operation doing = absurd operation
+operation_does : (statement : Statement) → IsOperation statement → (state : ProcessState) → does statement state ≡ finished (record state { x = operate statement state.x })
+operation_does (Set X number) operation state = refl
+operation_does (Add X number) operation state = refl
+operation_does (Sub X number) operation state = refl
+operation_does (Neg X) operation state = refl
+operation_does (Double X) operation state = refl
+operation_does (Get read X) operation state = absurd operation
+operation_does (Put written X) operation state = absurd operation
+operation_does (PutNumber written number) operation state = absurd operation
+operation_does (Move read written) operation state = absurd operation
 
 -- a statement that sends adds one value to what was sent
-sends_does : (written : Name) (statement : Statement) → SendsOn written statement → (doing : Doing) → does statement doing ≡ finished (record doing { sent = one_more doing.sent written (sent_by statement doing.x) })
-sends_does written (Put name X) sends doing = ap (λ (n : Name). finished (record doing { sent = one_more doing.sent n doing.x })) sends
-sends_does written (PutNumber name number) sends doing = ap (λ (n : Name). finished (record doing { sent = one_more doing.sent n number })) sends.0
-sends_does written (Get read X) sends doing = absurd sends
-sends_does written (Move read name) sends doing = absurd sends
-sends_does written (Set X number) sends doing = absurd sends
-sends_does written (Add X number) sends doing = absurd sends
-sends_does written (Sub X number) sends doing = absurd sends
-sends_does written (Neg X) sends doing = absurd sends
-sends_does written (Double X) sends doing = absurd sends
+sends_does : (written : Name) (statement : Statement) → SendsOn written statement → (state : ProcessState) → does statement state ≡ finished (record state { sent = one_more state.sent written (sent_by statement state.x) })
+sends_does written (Put name X) sends state = ap (λ (n : Name). finished (record state { sent = one_more state.sent n state.x })) sends
+sends_does written (PutNumber name number) sends state = ap (λ (n : Name). finished (record state { sent = one_more state.sent n number })) sends.0
+sends_does written (Get read X) sends state = absurd sends
+sends_does written (Move read name) sends state = absurd sends
+sends_does written (Set X number) sends state = absurd sends
+sends_does written (Add X number) sends state = absurd sends
+sends_does written (Sub X number) sends state = absurd sends
+sends_does written (Neg X) sends state = absurd sends
+sends_does written (Double X) sends state = absurd sends
 
 -- the rest of a round is done to its end, and sends its value
-record RestDone (fuel : ℕ) (rest : List Statement) (written : Name) (value : ℤ) (doing : Doing) : Type 0 where
-  after : Doing
-  finishes : exec fuel rest doing ≡ finished after
-  unread : after.unread ≡ doing.unread
-  sent : after.sent ≡ one_more doing.sent written value
-  steps : after.steps ≡ doing.steps + length rest
+record RestDone (fuel : ℕ) (rest : List Statement) (written : Name) (value : ℤ) (state : ProcessState) : Type 0 where
+  after : ProcessState
+  finishes : exec fuel rest state ≡ finished after
+  unread : after.unread ≡ state.unread
+  sent : after.sent ≡ one_more state.sent written value
+  steps : after.steps ≡ state.steps + length rest
 
 -- operations, and then one statement that sends
-rest_done : {written : Name} {rest : List Statement} (view : Rest written rest) (fuel : ℕ) (doing : Doing) → RestDone fuel rest written (value_sent view doing.x) doing
-rest_done {written = written} (Last statement sends) fuel doing =
+rest_done : {written : Name} {rest : List Statement} (view : Rest written rest) (fuel : ℕ) (state : ProcessState) → RestDone fuel rest written (value_sent view state.x) state
+rest_done {written = written} (Last statement sends) fuel state =
     record {
-      after = record (stepped doing) { sent = one_more doing.sent written (sent_by statement doing.x) };
-      finishes = ap (λ (outcome : Outcome). and_then outcome (exec fuel [])) (sends_does written statement sends (stepped doing));
+      after = record (stepped state) { sent = one_more state.sent written (sent_by statement state.x) };
+      finishes = ap (λ (execution : Execution). and_then execution (exec fuel [])) (sends_does written statement sends (stepped state));
       unread = refl;
       sent = refl;
       steps = omega arith;
     }
-rest_done {written = written} (Then statement rest operation later) fuel doing =
-    let done = rest_done later fuel (record (stepped doing) { x = operate statement doing.x }) in
+rest_done {written = written} (Then statement rest operation later) fuel state =
+    let done = rest_done later fuel (record (stepped state) { x = operate statement state.x }) in
     record {
       after = done.after;
-      finishes = ap (λ (outcome : Outcome). and_then outcome (exec fuel rest)) (operation_does statement operation (stepped doing)) ∙ done.finishes;
+      finishes = ap (λ (execution : Execution). and_then execution (exec fuel rest)) (operation_does statement operation (stepped state)) ∙ done.finishes;
       unread = done.unread;
       sent = done.sent;
       steps = omega (arith, done.steps);
     }
 
 -- a round that finds this value is done to its end
-record RoundDone (fuel : ℕ) (body : List Statement) (read written : Name) (value : ℤ) (values : List ℤ) (doing : Doing) : Type 0 where
-  after : Doing
-  finishes : exec fuel body doing ≡ finished after
+record RoundDone (fuel : ℕ) (body : List Statement) (read written : Name) (value : ℤ) (values : List ℤ) (state : ProcessState) : Type 0 where
+  after : ProcessState
+  finishes : exec fuel body state ≡ finished after
   unread : after.unread read ≡ values
-  sent : after.sent ≡ one_more doing.sent written value
-  steps : after.steps ≡ doing.steps + length body
+  sent : after.sent ≡ one_more state.sent written value
+  steps : after.steps ≡ state.steps + length body
 
 -- a round that finds a value
-round_done : {read written : Name} {body : List Statement} (round : Round read written body) (fuel : ℕ) (doing : Doing) (value : ℤ) (values : List ℤ) → doing.unread read ≡ value ∷ values → RoundDone fuel body read written (round_value round value) values doing
-round_done {read = read} {written = written} Moves fuel doing value values is =
+round_done : {read written : Name} {body : List Statement} (round : Round read written body) (fuel : ℕ) (state : ProcessState) (value : ℤ) (values : List ℤ) → state.unread read ≡ value ∷ values → RoundDone fuel body read written (round_value round value) values state
+round_done {read = read} {written = written} Moves fuel state value values is =
     record {
-      after = record (stepped doing) { unread = with_stream doing.unread read values; sent = one_more doing.sent written value };
+      after = record (stepped state) { unread = with_stream state.unread read values; sent = one_more state.sent written value };
       finishes = rw is refl;
-      unread = with_stream-same doing.unread read values;
+      unread = with_stream-same state.unread read values;
       sent = refl;
       steps = omega arith;
     }
-round_done {read = read} {written = written} (Computes rest view) fuel doing value values is =
-    let done = rest_done view fuel (record (stepped doing) { x = value; unread = with_stream doing.unread read values }) in
+round_done {read = read} {written = written} (Computes rest view) fuel state value values is =
+    let done = rest_done view fuel (record (stepped state) { x = value; unread = with_stream state.unread read values }) in
     record {
       after = done.after;
       finishes = rw is done.finishes;
-      unread = ap (λ (streams : Streams). streams read) done.unread ∙ with_stream-same doing.unread read values;
+      unread = ap (λ (streams : Streams). streams read) done.unread ∙ with_stream-same state.unread read values;
       sent = done.sent;
       steps = omega (arith, done.steps);
     }
 
 -- a round that finds no value waits for one
-round_waits : {read written : Name} {body : List Statement} (round : Round read written body) (fuel : ℕ) (doing : Doing) → doing.unread read ≡ [] → exec fuel body doing ≡ record { doing = stepped doing; ending = WaitsOn read }
-round_waits Moves fuel doing is = rw is refl
-round_waits (Computes rest view) fuel doing is = rw is refl
+round_waits : {read written : Name} {body : List Statement} (round : Round read written body) (fuel : ℕ) (state : ProcessState) → state.unread read ≡ [] → exec fuel body state ≡ record { state = stepped state; outcome = WaitsOn read }
+round_waits Moves fuel state is = rw is refl
+round_waits (Computes rest view) fuel state is = rw is refl
 
 -- the process read all these values, sent one for each, and waits for more
-pub record SendsAll (read written : Name) (value_of : ℤ → ℤ) (size : ℕ) (values : List ℤ) (doing : Doing) (outcome : Outcome) : Type 0 where
-  pub sent : outcome.doing.sent written ≡ doing.sent written ++ map value_of values
-  pub others : (name : Name) → name ≢ written → outcome.doing.sent name ≡ doing.sent name
-  pub waits : outcome.ending ≡ WaitsOn read
-  pub steps : outcome.doing.steps ≡ doing.steps + length values * (1 + size) + 2
+pub record SendsAll (read written : Name) (value_of : ℤ → ℤ) (size : ℕ) (values : List ℤ) (state : ProcessState) (execution : Execution) : Type 0 where
+  pub sent : execution.state.sent written ≡ state.sent written ++ map value_of values
+  pub others : (name : Name) → name ≢ written → execution.state.sent name ≡ state.sent name
+  pub waits : execution.outcome ≡ WaitsOn read
+  pub steps : execution.state.steps ≡ state.steps + length values * (1 + size) + 2
 
 -- with rounds enough
-pub sends_all : {read written : Name} {body : List Statement} (round : Round read written body) (values : List ℤ) (fuel : ℕ) (doing : Doing) → length values < fuel → doing.unread read ≡ values → SendsAll read written (round_value round) (length body) values doing (rounds fuel body doing)
-sends_all round values zero doing enough is = absurd (omega arith)
-sends_all {read = read} {written = written} {body = body} round [] (suc fuel) doing enough is =
-    let waits = round_waits round fuel (stepped doing) is in
-    subst (λ (outcome : Outcome). SendsAll read written (round_value round) (length body) [] doing (and_then outcome (rounds fuel body))) (sym waits)
-    (record { sent = sym (append-nil (doing.sent written)); others = λ name apart. refl; waits = refl; steps = omega arith })
-sends_all {read = read} {written = written} {body = body} round (value ∷ values) (suc fuel) doing enough is =
-    let done = round_done round fuel (stepped doing) value values is in
+pub sends_all : {read written : Name} {body : List Statement} (round : Round read written body) (values : List ℤ) (fuel : ℕ) (state : ProcessState) → length values < fuel → state.unread read ≡ values → SendsAll read written (round_value round) (length body) values state (rounds fuel body state)
+sends_all round values zero state enough is = absurd (omega arith)
+sends_all {read = read} {written = written} {body = body} round [] (suc fuel) state enough is =
+    let waits = round_waits round fuel (stepped state) is in
+    subst (λ (execution : Execution). SendsAll read written (round_value round) (length body) [] state (and_then execution (rounds fuel body))) (sym waits)
+    (record { sent = sym (append-nil (state.sent written)); others = λ name apart. refl; waits = refl; steps = omega arith })
+sends_all {read = read} {written = written} {body = body} round (value ∷ values) (suc fuel) state enough is =
+    let done = round_done round fuel (stepped state) value values is in
     let later = sends_all round values fuel done.after (omega arith) done.unread in
-    let sent = ap (λ (streams : Streams). streams written) done.sent ∙ with_stream-same doing.sent written (doing.sent written ++ round_value round value ∷ []) in
-    subst (λ (outcome : Outcome). SendsAll read written (round_value round) (length body) (value ∷ values) doing (and_then outcome (rounds fuel body))) (sym done.finishes)
+    let sent = ap (λ (streams : Streams). streams written) done.sent ∙ with_stream-same state.sent written (state.sent written ++ round_value round value ∷ []) in
+    subst (λ (execution : Execution). SendsAll read written (round_value round) (length body) (value ∷ values) state (and_then execution (rounds fuel body))) (sym done.finishes)
     (record {
-      sent = later.sent ∙ ap (λ (front : List ℤ). front ++ map (round_value round) values) sent ∙ append_assoc (doing.sent written) (round_value round value ∷ []) (map (round_value round) values);
-      others = λ name apart. later.others name apart ∙ ap (λ (streams : Streams). streams name) done.sent ∙ with_stream-other doing.sent written name _ apart;
+      sent = later.sent ∙ ap (λ (prefix : List ℤ). prefix ++ map (round_value round) values) sent ∙ append_assoc (state.sent written) (round_value round value ∷ []) (map (round_value round) values);
+      others = λ name apart. later.others name apart ∙ ap (λ (streams : Streams). streams name) done.sent ∙ with_stream-other state.sent written name _ apart;
       waits = later.waits;
       steps = omega (arith, later.steps, done.steps);
     })

@@ -8,13 +8,13 @@ use Rattle.std.proofs.lemmas.List.{length-take, take-take}
 use Rattle.std.proofs.lemmas.List.Sums.{count_by-le-length, count_by_more_yes, sum_by-take-le}
 use Rattle.std.proofs.lemmas.Option.{get_or_from_slice_get}
 use Rattle.tis_base.specs.Lines.{text_lines, text_of_lines}
-use Rattle.tis_base.specs.Tiles.{Board, is_compute, block_of}
+use Rattle.tis_base.specs.Tiles.{Tiles, is_compute, block_of}
 use Rattle.tis_base.specs.declared.tiles.TileKind.TheVariants.{Compute, Damaged}
 use Rattle.tis_base.proofs.TextLines.{is_plain_byte, is_plain_line, list_all-join, text_lines-text_of_lines, text_of_lines-append}
 use Rattle.tis_asm.specs.declared.instr.Instr.{Instr}
 use Rattle.tis_asm.specs.declared.instr.Instr.TheVariants.{Mov, Add, Sub, Neg}
-use Rattle.tis_asm.specs.declared.program.Line.{Line}
-use Rattle.tis_asm.specs.Listing.{Listing, IsListing, HasValues, program_at}
+use Rattle.tis_asm.specs.declared.program.MarkedInstr.{MarkedInstr}
+use Rattle.tis_asm.specs.Programs.{Programs, ArePrograms, HasValues, program_at}
 use Rattle.tis_asm.specs.Code.{line_text}
 use Rattle.tis_asm.proofs.ReadingBack.{program_is_plain}
 use Rattle.tis_cli.specs.Saves.{head_of, block_text, tile_text, is_head, computes}
@@ -22,31 +22,31 @@ use Rattle.tis_cli.specs.Saves.{head_of, block_text, tile_text, is_head, compute
 -- ---- the lines of one block
 
 -- the lines below the head: the code and an empty line
-abbrev pub body_of : List Line → List (List ℕ)
+abbrev pub body_of : List MarkedInstr → List (List ℕ)
 body_of [] = []
 body_of (line ∷ program) = map line_text (line ∷ program) ++ [] ∷ []
 
 -- the lines of a block
-abbrev pub section_of : List ℕ → List Line → List (List ℕ)
+abbrev pub section_of : List ℕ → List MarkedInstr → List (List ℕ)
 section_of head [] = []
 section_of head (line ∷ program) = head ∷ (map line_text (line ∷ program) ++ [] ∷ [])
 
 -- the lines of the block of a tile
-abbrev pub tile_section : Listing → ℕ → List (List ℕ)
-tile_section listing tile = section_of (head_of listing.tiles tile) (program_at listing.programs tile)
+abbrev pub tile_section : Programs → ℕ → List (List ℕ)
+tile_section programs tile = section_of (head_of programs.tiles tile) (program_at programs.programs tile)
 
 -- the text of a block is that of its lines
-section-text : (head : List ℕ) (program : List Line) → block_text head program ≡ text_of_lines (section_of head program)
+section-text : (head : List ℕ) (program : List MarkedInstr) → block_text head program ≡ text_of_lines (section_of head program)
 section-text head [] = refl
 section-text head (line ∷ program) = ap (λ (text : List ℕ). head ++ 10 ∷ text) (sym (text_of_lines-append (map line_text (line ∷ program)) ([] ∷ [])))
 
 -- the text of the blocks is that of their lines
-pub sections-text : (listing : Listing) (tiles : List ℕ) → flat_map (tile_text listing) tiles ≡ text_of_lines (flat_map (tile_section listing) tiles)
-sections-text listing [] = refl
-sections-text listing (tile ∷ tiles) =
-    ap (λ (front : List ℕ). front ++ flat_map (tile_text listing) tiles) (section-text (head_of listing.tiles tile) (program_at listing.programs tile))
-    ∙ ap (λ (back : List ℕ). text_of_lines (tile_section listing tile) ++ back) (sections-text listing tiles)
-    ∙ sym (text_of_lines-append (tile_section listing tile) (flat_map (tile_section listing) tiles))
+pub sections-text : (programs : Programs) (tiles : List ℕ) → flat_map (tile_text programs) tiles ≡ text_of_lines (flat_map (tile_section programs) tiles)
+sections-text programs [] = refl
+sections-text programs (tile ∷ tiles) =
+    ap (λ (prefix : List ℕ). prefix ++ flat_map (tile_text programs) tiles) (section-text (head_of programs.tiles tile) (program_at programs.programs tile))
+    ∙ ap (λ (back : List ℕ). text_of_lines (tile_section programs tile) ++ back) (sections-text programs tiles)
+    ∙ sym (text_of_lines-append (tile_section programs tile) (flat_map (tile_section programs) tiles))
 
 -- ---- heads and code
 
@@ -63,47 +63,47 @@ marked_is_code false (Sub source) = refl
 marked_is_code false Neg = refl
 
 -- so no line of a program is one
-program_is_code : (program : List Line) → list_all is_code (map line_text program) ≡ true
+program_is_code : (program : List MarkedInstr) → list_all is_code (map line_text program) ≡ true
 program_is_code [] = refl
 program_is_code (line ∷ program) = and_from (is_code (line_text line)) (list_all is_code (map line_text program)) (marked_is_code line.mark line.instr) (program_is_code program)
 
 -- no line of a block is a head but the first
-pub body_is_code : (line : Line) (program : List Line) → list_all is_code (map line_text (line ∷ program) ++ [] ∷ []) ≡ true
+pub body_is_code : (line : MarkedInstr) (program : List MarkedInstr) → list_all is_code (map line_text (line ∷ program) ++ [] ∷ []) ≡ true
 body_is_code line program = list_all-join is_code (map line_text (line ∷ program)) ([] ∷ []) (program_is_code (line ∷ program)) refl
 
 -- ---- the numbers of the blocks
 
--- a longer front has no fewer of them
+-- a longer list has no fewer of them
 taken_more : {X : Type 0} (test : X → Bool) (xs : List X) (few many : ℕ) → few ≤ many → count_by test (take few xs) ≤ count_by test (take many xs)
-taken_more test xs few many le = subst (λ front. count_by test front ≤ count_by test (take many xs)) (take-take few many xs le) (sum_by-take-le (λ x. cond (test x) 1 0) (take many xs) few)
+taken_more test xs few many le = subst (λ prefix. count_by test prefix ≤ count_by test (take many xs)) (take-take few many xs le) (sum_by-take-le (λ x. cond (test x) 1 0) (take many xs) few)
 
 -- the block of a compute tile has a smaller number than those of the tiles behind it
-blocks_grow : (tiles : Board) (first second : ℕ) → first < length tiles.kinds → computes tiles first ≡ true → first < second → block_of tiles first < block_of tiles second
+blocks_grow : (tiles : Tiles) (first second : ℕ) → first < length tiles.kinds → computes tiles first ≡ true → first < second → block_of tiles first < block_of tiles second
 blocks_grow tiles first second inside computing before =
     omega (arith, count_by_more_yes is_compute tiles.kinds first Damaged inside computing, taken_more is_compute tiles.kinds (first + 1) second (omega arith))
 
 -- there are no more blocks than tiles
-block_is_small : (tiles : Board) (tile : ℕ) → length tiles.kinds < 2 ^ 64 → block_of tiles tile < 2 ^ 64
+block_is_small : (tiles : Tiles) (tile : ℕ) → length tiles.kinds < 2 ^ 64 → block_of tiles tile < 2 ^ 64
 block_is_small tiles tile small = omega (arith, count_by-le-length is_compute (take tile tiles.kinds), length-take tile tiles.kinds)
 
 -- two compute tiles have different heads
-pub heads_differ : (tiles : Board) (first second : ℕ) → length tiles.kinds < 2 ^ 64 → first < length tiles.kinds → computes tiles first ≡ true → first < second → head_of tiles first ≡ head_of tiles second → ⊥
+pub heads_differ : (tiles : Tiles) (first second : ℕ) → length tiles.kinds < 2 ^ 64 → first < length tiles.kinds → computes tiles first ≡ true → first < second → head_of tiles first ≡ head_of tiles second → ⊥
 heads_differ tiles first second small inside computing before same =
     let numerals : decimal (block_of tiles first) ≡ decimal (block_of tiles second) = cc in
     let numbers : block_of tiles first ≡ block_of tiles second = decimal_injective (block_of tiles first) (block_of tiles second) (block_is_small tiles first small) (block_is_small tiles second small) numerals in
     omega (arith, blocks_grow tiles first second inside computing before, numbers)
 
 -- a tile that computes nothing has the empty program
-pub no_program : (listing : Listing) → IsListing listing → (tile : ℕ) → computes listing.tiles tile ≡ false → program_at listing.programs tile ≡ []
-no_program listing is tile resting =
-    is.elsewhere tile (λ found. true≢false (sym (ap is_compute (get_or_from_slice_get listing.tiles.kinds tile Compute Damaged found)) ∙ resting))
+pub no_program : (programs : Programs) → ArePrograms programs → (tile : ℕ) → computes programs.tiles tile ≡ false → program_at programs.programs tile ≡ []
+no_program programs is tile resting =
+    is.elsewhere tile (λ found. true≢false (sym (ap is_compute (get_or_from_slice_get programs.tiles.kinds tile Compute Damaged found)) ∙ resting))
 
 -- a tile with a program computes
-pub has_program : (listing : Listing) → IsListing listing → (tile : ℕ) (line : Line) (program : List Line) → program_at listing.programs tile ≡ line ∷ program → computes listing.tiles tile ≡ true
-has_program listing is tile line program has =
-    elim (cases_Bool (computes listing.tiles tile)) [
+pub has_program : (programs : Programs) → ArePrograms programs → (tile : ℕ) (line : MarkedInstr) (program : List MarkedInstr) → program_at programs.programs tile ≡ line ∷ program → computes programs.tiles tile ≡ true
+has_program programs is tile line program has =
+    elim (cases_Bool (computes programs.tiles tile)) [
       | inl computing ↦ computing
-      | inr resting ↦ let none : program_at listing.programs tile ≡ [] = no_program listing is tile resting in absurd cc
+      | inr resting ↦ let none : program_at programs.programs tile ≡ [] = no_program programs is tile resting in absurd cc
     ]
 
 -- ---- no line of a save has LF or CR in it
@@ -119,19 +119,19 @@ decimal_is_plain =
     (λ number digits le plain. list_all-join is_plain_byte digits ((48 + number % 10) ∷ []) plain (digit_is_plain (number % 10)))
 
 -- nor in a block
-section_is_plain : (head : List ℕ) (program : List Line) → HasValues program → is_plain_line head ≡ true → list_all is_plain_line (section_of head program) ≡ true
+section_is_plain : (head : List ℕ) (program : List MarkedInstr) → HasValues program → is_plain_line head ≡ true → list_all is_plain_line (section_of head program) ≡ true
 section_is_plain head [] are plain = refl
 section_is_plain head (line ∷ program) are plain =
     and_from (is_plain_line head) (list_all is_plain_line (map line_text (line ∷ program) ++ [] ∷ [])) plain (list_all-join is_plain_line (map line_text (line ∷ program)) ([] ∷ []) (program_is_plain (line ∷ program) are) refl)
 
 -- nor in all blocks
-sections_are_plain : (listing : Listing) (tiles : List ℕ) → ((tile : ℕ) → HasValues (program_at listing.programs tile)) → length listing.tiles.kinds < 2 ^ 64 → list_all is_plain_line (flat_map (tile_section listing) tiles) ≡ true
-sections_are_plain listing [] are small = refl
-sections_are_plain listing (tile ∷ tiles) are small =
-    list_all-join is_plain_line (tile_section listing tile) (flat_map (tile_section listing) tiles)
-    (section_is_plain (head_of listing.tiles tile) (program_at listing.programs tile) (are tile) (decimal_is_plain (block_of listing.tiles tile) (block_is_small listing.tiles tile small)))
-    (sections_are_plain listing tiles are small)
+sections_are_plain : (programs : Programs) (tiles : List ℕ) → ((tile : ℕ) → HasValues (program_at programs.programs tile)) → length programs.tiles.kinds < 2 ^ 64 → list_all is_plain_line (flat_map (tile_section programs) tiles) ≡ true
+sections_are_plain programs [] are small = refl
+sections_are_plain programs (tile ∷ tiles) are small =
+    list_all-join is_plain_line (tile_section programs tile) (flat_map (tile_section programs) tiles)
+    (section_is_plain (head_of programs.tiles tile) (program_at programs.programs tile) (are tile) (decimal_is_plain (block_of programs.tiles tile) (block_is_small programs.tiles tile small)))
+    (sections_are_plain programs tiles are small)
 
 -- the lines of the text of the blocks
-pub sections-lines : (listing : Listing) (tiles : List ℕ) → ((tile : ℕ) → HasValues (program_at listing.programs tile)) → length listing.tiles.kinds < 2 ^ 64 → text_lines (flat_map (tile_text listing) tiles) ≡ flat_map (tile_section listing) tiles
-sections-lines listing tiles are small = ap text_lines (sections-text listing tiles) ∙ text_lines-text_of_lines (flat_map (tile_section listing) tiles) (sections_are_plain listing tiles are small)
+pub sections-lines : (programs : Programs) (tiles : List ℕ) → ((tile : ℕ) → HasValues (program_at programs.programs tile)) → length programs.tiles.kinds < 2 ^ 64 → text_lines (flat_map (tile_text programs) tiles) ≡ flat_map (tile_section programs) tiles
+sections-lines programs tiles are small = ap text_lines (sections-text programs tiles) ∙ text_lines-text_of_lines (flat_map (tile_section programs) tiles) (sections_are_plain programs tiles are small)

@@ -1,4 +1,4 @@
--- The canonical save of a listing whose numbers are values is read as that listing.
+-- The canonical save of a programs whose numbers are values is read as that programs.
 use Rattle.std.proofs.Common.{◌≡◌, ℕ, zero, suc, ◌+◌, ◌*◌, ◌^◌, ◌<◌, ◌≤◌, Bool, true, false, cond, List, [], ◌∷◌, ◌++◌, length, map, Option, Some, None, refl, sym, ap, subst, ◌∙◌, inl, inr, arith, append_assoc}
 use Rattle.std.specs.Prelude.{◌&&◌, flat_map, not, Result, Ok}
 use Rattle.std.specs.List.{range_with_len, list_all, list_any, take_while}
@@ -11,13 +11,13 @@ use Rattle.std.proofs.lemmas.List.FromFn.{length-range_with_len, get_or-range_wi
 use Rattle.std.proofs.lemmas.List.Sums.{take_while-cons}
 use Rattle.std.proofs.lemmas.Slice.Eq.{bytes_eq-Decides}
 use Rattle.tis_base.proofs.TextLines.{not_is}
-use Rattle.tis_base.specs.Tiles.{Board, block_of}
-use Rattle.tis_asm.specs.declared.program.Line.{Line}
-use Rattle.tis_asm.specs.Listing.{Listing, IsListing, HasValues, program_at}
+use Rattle.tis_base.specs.Tiles.{Tiles, block_of}
+use Rattle.tis_asm.specs.declared.program.MarkedInstr.{MarkedInstr}
+use Rattle.tis_asm.specs.Programs.{Programs, ArePrograms, HasValues, program_at}
 use Rattle.tis_asm.specs.Code.{line_text}
 use Rattle.tis_asm.specs.Assembling.{is_blank, assembled_lines}
 use Rattle.tis_asm.proofs.ReadingBack.{lines_read_back}
-use Rattle.tis_cli.specs.Saves.{SaveRefusal, StrayCode, head_of, save_text, is_head, computes, is_head_on, head_fault, code_fault, line_fault, first_fault, block_lines, in_block, tile_program, with_program, programs_of, listing_of, save_of_lines, save_of, SavesReadBack}
+use Rattle.tis_cli.specs.Saves.{SaveRefusal, StrayCode, head_of, save_text, is_head, computes, is_head_on, head_fault, code_fault, line_fault, first_fault, block_lines, in_block, tile_program, with_program, programs_of, programs_read, save_of_lines, save_of, SavesReadBack}
 use Rattle.tis_cli.proofs.Distinct.{not_alike}
 use Rattle.tis_cli.proofs.SaveLines.{body_of, section_of, tile_section, is_code, body_is_code, heads_differ, no_program, has_program, sections-lines}
 
@@ -51,13 +51,13 @@ take_while-code (line ∷ code) rest all =
 -- ---- one block, and the lines behind it
 
 -- a block ends where the next begins
-ends_at_section : (head : List ℕ) (program : List Line) (rest : List (List ℕ)) → is_head head ≡ true → take_while is_code rest ≡ [] → take_while is_code (section_of head program ++ rest) ≡ []
+ends_at_section : (head : List ℕ) (program : List MarkedInstr) (rest : List (List ℕ)) → is_head head ≡ true → take_while is_code rest ≡ [] → take_while is_code (section_of head program ++ rest) ≡ []
 ends_at_section head [] rest is ends = ends
 ends_at_section head (line ∷ program) rest is ends =
     take_while-cons is_code head ((map line_text (line ∷ program) ++ [] ∷ []) ++ rest) ∙ ap (λ (b : Bool). cond (not b) (head ∷ take_while is_code ((map line_text (line ∷ program) ++ [] ∷ []) ++ rest)) []) is
 
 -- a block under another head is passed over
-skip_section : (head other : List ℕ) (program : List Line) (rest : List (List ℕ)) → is_head head ≡ true → ((line : Line) (others : List Line) → program ≡ line ∷ others → other ≡ head → ⊥) →
+skip_section : (head other : List ℕ) (program : List MarkedInstr) (rest : List (List ℕ)) → is_head head ≡ true → ((line : MarkedInstr) (others : List MarkedInstr) → program ≡ line ∷ others → other ≡ head → ⊥) →
     block_lines head (section_of other program ++ rest) ≡ block_lines head rest
 skip_section head other [] rest is differ = refl
 skip_section head other (line ∷ program) rest is differ =
@@ -65,7 +65,7 @@ skip_section head other (line ∷ program) rest is differ =
     ∙ skip_code head (map line_text (line ∷ program) ++ [] ∷ []) rest is (body_is_code line program)
 
 -- a block under this head is found whole
-find_section : (head : List ℕ) (program : List Line) (rest : List (List ℕ)) → block_lines head rest ≡ [] → take_while is_code rest ≡ [] → block_lines head (section_of head program ++ rest) ≡ body_of program
+find_section : (head : List ℕ) (program : List MarkedInstr) (rest : List (List ℕ)) → block_lines head rest ≡ [] → take_while is_code rest ≡ [] → block_lines head (section_of head program ++ rest) ≡ body_of program
 find_section head [] rest absent ends = absent
 find_section head (line ∷ program) rest absent ends =
     ap (λ (same : Bool). cond same (take_while is_code ((map line_text (line ∷ program) ++ [] ∷ []) ++ rest)) (block_lines head ((map line_text (line ∷ program) ++ [] ∷ []) ++ rest))) ((bytes_eq-Decides head head).1 refl)
@@ -74,12 +74,12 @@ find_section head (line ∷ program) rest absent ends =
     ∙ append-nil (map line_text (line ∷ program) ++ [] ∷ [])
 
 -- what stands below a head is read as the program
-body-read : (program : List Line) → length program ≤ 15 → HasValues program → assembled_lines (body_of program) ≡ Ok program
+body-read : (program : List MarkedInstr) → length program ≤ 15 → HasValues program → assembled_lines (body_of program) ≡ Ok program
 body-read [] few are = refl
 body-read (line ∷ program) few are = lines_read_back (line ∷ program) ([] ∷ []) few are refl
 
 -- nothing is wrong with code below a head
-code_is_right : (tiles : Board) (above code rest : List (List ℕ)) → list_any is_head above ≡ true → list_all is_code code ≡ true → first_fault tiles above (code ++ rest) ≡ first_fault tiles (above ++ code) rest
+code_is_right : (tiles : Tiles) (above code rest : List (List ℕ)) → list_any is_head above ≡ true → list_all is_code code ≡ true → first_fault tiles above (code ++ rest) ≡ first_fault tiles (above ++ code) rest
 code_is_right tiles above [] rest has all = ap (λ (lines : List (List ℕ)). first_fault tiles lines rest) (sym (append-nil above))
 code_is_right tiles above (line ∷ code) rest has all =
     let parts = and_parts (is_code line) (list_all is_code code) all in
@@ -89,30 +89,30 @@ code_is_right tiles above (line ∷ code) rest has all =
     ∙ ap (λ (lines : List (List ℕ)). first_fault tiles lines rest) (append_assoc above (line ∷ []) code)
 
 -- a head of a compute tile is one
-is_head_on-head : (tiles : Board) (tile : ℕ) → tile < length tiles.kinds → computes tiles tile ≡ true → is_head_on tiles (head_of tiles tile) ≡ true
+is_head_on-head : (tiles : Tiles) (tile : ℕ) → tile < length tiles.kinds → computes tiles tile ≡ true → is_head_on tiles (head_of tiles tile) ≡ true
 is_head_on-head tiles tile inside computing =
     list_any_at (λ t. computes tiles t && bytes_eq (head_of tiles tile) (head_of tiles t)) (range_with_len 0 (length tiles.kinds)) tile 0 (rw length-range_with_len inside)
     (subst (λ (t : ℕ). (computes tiles t && bytes_eq (head_of tiles tile) (head_of tiles t)) ≡ true) (sym (get_or-range_with_len 0 (length tiles.kinds) tile 0 inside ∙ omega arith))
     (and_from (computes tiles tile) (bytes_eq (head_of tiles tile) (head_of tiles tile)) computing ((bytes_eq-Decides (head_of tiles tile) (head_of tiles tile)).1 refl)))
 
 -- nothing is wrong with the head of a compute tile that doesn't stand above
-head_is_right : (tiles : Board) (above : List (List ℕ)) (number tile : ℕ) → tile < length tiles.kinds → computes tiles tile ≡ true → list_any (bytes_eq (head_of tiles tile)) above ≡ false → line_fault tiles above number (head_of tiles tile) ≡ None
+head_is_right : (tiles : Tiles) (above : List (List ℕ)) (number tile : ℕ) → tile < length tiles.kinds → computes tiles tile ≡ true → list_any (bytes_eq (head_of tiles tile)) above ≡ false → line_fault tiles above number (head_of tiles tile) ≡ None
 head_is_right tiles above number tile inside computing fresh = rw (is_head_on-head tiles tile inside computing, fresh) refl
 
 -- ---- the blocks of all tiles
 
-module _ (listing : Listing) (small : length listing.tiles.kinds < 2 ^ 64) (is : IsListing listing) (are : (tile : ℕ) → HasValues (program_at listing.programs tile)) where
+module _ (programs : Programs) (small : length programs.tiles.kinds < 2 ^ 64) (is : ArePrograms programs) (are : (tile : ℕ) → HasValues (program_at programs.programs tile)) where
   -- the lines of the blocks of so many tiles from this one on
   abbrev lines_from : ℕ → ℕ → List (List ℕ)
-  lines_from start count = flat_map (tile_section listing) (range_with_len start count)
+  lines_from start count = flat_map (tile_section programs) (range_with_len start count)
 
   -- the head of a tile's block
   abbrev head_at : ℕ → List ℕ
-  head_at tile = head_of listing.tiles tile
+  head_at tile = head_of programs.tiles tile
 
   -- the program of a tile
-  abbrev code_at : ℕ → List Line
-  code_at tile = program_at listing.programs tile
+  abbrev code_at : ℕ → List MarkedInstr
+  code_at tile = program_at programs.programs tile
 
   -- what follows a block begins with a head
   ends_at_lines : (start count : ℕ) → take_while is_code (lines_from start count) ≡ []
@@ -120,44 +120,44 @@ module _ (listing : Listing) (small : length listing.tiles.kinds < 2 ^ 64) (is :
   ends_at_lines start (suc count) = ends_at_section (head_at start) (code_at start) (lines_from (start + 1) count) refl (ends_at_lines (start + 1) count)
 
   -- the head of a tile stands only before its own block
-  apart : (tile other : ℕ) → tile < length listing.tiles.kinds → other < length listing.tiles.kinds → computes listing.tiles tile ≡ true → computes listing.tiles other ≡ true → (tile ≡ other → ⊥) → head_at tile ≡ head_at other → ⊥
+  apart : (tile other : ℕ) → tile < length programs.tiles.kinds → other < length programs.tiles.kinds → computes programs.tiles tile ≡ true → computes programs.tiles other ≡ true → (tile ≡ other → ⊥) → head_at tile ≡ head_at other → ⊥
   apart tile other tile_inside other_inside tile_computes other_computes differ same =
       elim (cases_lt tile other) [
-        | inl before ↦ heads_differ listing.tiles tile other small tile_inside tile_computes before same
-        | inr after ↦ heads_differ listing.tiles other tile small other_inside other_computes (omega arith) (sym same)
+        | inl before ↦ heads_differ programs.tiles tile other small tile_inside tile_computes before same
+        | inr after ↦ heads_differ programs.tiles other tile small other_inside other_computes (omega arith) (sym same)
       ]
 
   -- no block of a tile stands behind that of a later one
-  none_behind : (tile start count : ℕ) → tile < start → start + count ≤ length listing.tiles.kinds → computes listing.tiles tile ≡ true → block_lines (head_at tile) (lines_from start count) ≡ []
+  none_behind : (tile start count : ℕ) → tile < start → start + count ≤ length programs.tiles.kinds → computes programs.tiles tile ≡ true → block_lines (head_at tile) (lines_from start count) ≡ []
   none_behind tile start zero before inside computing = refl
   none_behind tile start (suc count) before inside computing =
       skip_section (head_at tile) (head_at start) (code_at start) (lines_from (start + 1) count) refl
-      (λ line others has. apart start tile (omega arith) (omega arith) (has_program listing is start line others has) computing (λ e. omega arith))
+      (λ line others has. apart start tile (omega arith) (omega arith) (has_program programs is start line others has) computing (λ e. omega arith))
       ∙ none_behind tile (start + 1) count (omega arith) (omega arith) computing
 
   -- the block of the first of these tiles
-  first_block : (start count : ℕ) → start + suc count ≤ length listing.tiles.kinds → computes listing.tiles start ≡ true → block_lines (head_at start) (lines_from start (suc count)) ≡ body_of (code_at start)
+  first_block : (start count : ℕ) → start + suc count ≤ length programs.tiles.kinds → computes programs.tiles start ≡ true → block_lines (head_at start) (lines_from start (suc count)) ≡ body_of (code_at start)
   first_block start count inside computing =
       find_section (head_at start) (code_at start) (lines_from (start + 1) count) (none_behind start (start + 1) count (omega arith) (omega arith) computing) (ends_at_lines (start + 1) count)
 
   -- the block of each of these tiles
-  each_block : (tile start count : ℕ) → start ≤ tile → tile < start + count → start + count ≤ length listing.tiles.kinds → computes listing.tiles tile ≡ true → block_lines (head_at tile) (lines_from start count) ≡ body_of (code_at tile)
+  each_block : (tile start count : ℕ) → start ≤ tile → tile < start + count → start + count ≤ length programs.tiles.kinds → computes programs.tiles tile ≡ true → block_lines (head_at tile) (lines_from start count) ≡ body_of (code_at tile)
   each_block tile start zero low high inside computing = absurd (omega arith)
   each_block tile start (suc count) low high inside computing =
       elim (cases_eq start tile) [
-        | inl here ↦ subst (λ (t : ℕ). block_lines (head_at t) (lines_from start (suc count)) ≡ body_of (code_at t)) here (first_block start count inside (subst (λ (t : ℕ). computes listing.tiles t ≡ true) (sym here) computing))
+        | inl here ↦ subst (λ (t : ℕ). block_lines (head_at t) (lines_from start (suc count)) ≡ body_of (code_at t)) here (first_block start count inside (subst (λ (t : ℕ). computes programs.tiles t ≡ true) (sym here) computing))
         | inr later ↦
             skip_section (head_at tile) (head_at start) (code_at start) (lines_from (start + 1) count) refl
-            (λ line others has. apart start tile (omega arith) (omega arith) (has_program listing is start line others has) computing later)
+            (λ line others has. apart start tile (omega arith) (omega arith) (has_program programs is start line others has) computing later)
             ∙ each_block tile (start + 1) count (omega arith) (omega arith) (omega arith) computing
       ]
 
   -- no head of these tiles stands above
   abbrev AreFresh : ℕ → List (List ℕ) → Type 0
-  AreFresh start above = (tile : ℕ) → start ≤ tile → tile < length listing.tiles.kinds → computes listing.tiles tile ≡ true → list_any (bytes_eq (head_at tile)) above ≡ false
+  AreFresh start above = (tile : ℕ) → start ≤ tile → tile < length programs.tiles.kinds → computes programs.tiles tile ≡ true → list_any (bytes_eq (head_at tile)) above ≡ false
 
   -- below one more block none stands above of the heads that follow
-  still_fresh : (start : ℕ) (above : List (List ℕ)) (line : Line) (program : List Line) → start < length listing.tiles.kinds → computes listing.tiles start ≡ true → AreFresh start above →
+  still_fresh : (start : ℕ) (above : List (List ℕ)) (line : MarkedInstr) (program : List MarkedInstr) → start < length programs.tiles.kinds → computes programs.tiles start ≡ true → AreFresh start above →
       AreFresh (start + 1) ((above ++ head_at start ∷ []) ++ (map line_text (line ∷ program) ++ [] ∷ []))
   still_fresh start above line program start_inside start_computes fresh tile later inside computing =
       list_any-append (bytes_eq (head_at tile)) (above ++ head_at start ∷ []) (map line_text (line ∷ program) ++ [] ∷ [])
@@ -168,63 +168,63 @@ module _ (listing : Listing) (small : length listing.tiles.kinds < 2 ^ 64) (is :
       (no_head_in_code (head_at tile) (map line_text (line ∷ program) ++ [] ∷ []) refl (body_is_code line program))
 
   -- nothing is wrong with the lines of a block, below others
-  section_is_right : (start : ℕ) (program : List Line) (above rest : List (List ℕ)) → code_at start ≡ program → start < length listing.tiles.kinds → AreFresh start above →
-      ((lines : List (List ℕ)) → AreFresh (start + 1) lines → first_fault listing.tiles lines rest ≡ None) → first_fault listing.tiles above (section_of (head_at start) program ++ rest) ≡ None
+  section_is_right : (start : ℕ) (program : List MarkedInstr) (above rest : List (List ℕ)) → code_at start ≡ program → start < length programs.tiles.kinds → AreFresh start above →
+      ((lines : List (List ℕ)) → AreFresh (start + 1) lines → first_fault programs.tiles lines rest ≡ None) → first_fault programs.tiles above (section_of (head_at start) program ++ rest) ≡ None
   section_is_right start [] above rest has inside fresh goes_on = goes_on above (λ tile low. fresh tile (omega arith))
   section_is_right start (line ∷ program) above rest has inside fresh goes_on =
-      let computing : computes listing.tiles start ≡ true = has_program listing is start line program has in
-      ap (λ (fault : Option SaveRefusal). option_or fault (first_fault listing.tiles (above ++ head_at start ∷ []) ((map line_text (line ∷ program) ++ [] ∷ []) ++ rest)))
-      (head_is_right listing.tiles above (length above + 1) start inside computing (fresh start (omega arith) inside computing))
-      ∙ code_is_right listing.tiles (above ++ head_at start ∷ []) (map line_text (line ∷ program) ++ [] ∷ []) rest (list_any-append is_head above (head_at start ∷ []) ∙ or_right (list_any is_head above) true refl) (body_is_code line program)
+      let computing : computes programs.tiles start ≡ true = has_program programs is start line program has in
+      ap (λ (fault : Option SaveRefusal). option_or fault (first_fault programs.tiles (above ++ head_at start ∷ []) ((map line_text (line ∷ program) ++ [] ∷ []) ++ rest)))
+      (head_is_right programs.tiles above (length above + 1) start inside computing (fresh start (omega arith) inside computing))
+      ∙ code_is_right programs.tiles (above ++ head_at start ∷ []) (map line_text (line ∷ program) ++ [] ∷ []) rest (list_any-append is_head above (head_at start ∷ []) ∙ or_right (list_any is_head above) true refl) (body_is_code line program)
       ∙ goes_on ((above ++ head_at start ∷ []) ++ (map line_text (line ∷ program) ++ [] ∷ [])) (still_fresh start above line program inside computing fresh)
 
   -- nothing is wrong with the lines of a save
-  lines_are_right : (start count : ℕ) (above : List (List ℕ)) → start + count ≤ length listing.tiles.kinds → AreFresh start above → first_fault listing.tiles above (lines_from start count) ≡ None
+  lines_are_right : (start count : ℕ) (above : List (List ℕ)) → start + count ≤ length programs.tiles.kinds → AreFresh start above → first_fault programs.tiles above (lines_from start count) ≡ None
   lines_are_right start zero above inside fresh = refl
   lines_are_right start (suc count) above inside fresh =
       section_is_right start (code_at start) above (lines_from (start + 1) count) refl (omega arith) fresh (λ lines still. lines_are_right (start + 1) count lines (omega arith) still)
 
   -- the lines of the whole save
   abbrev all_lines : List (List ℕ)
-  all_lines = lines_from 0 (length listing.tiles.kinds)
+  all_lines = lines_from 0 (length programs.tiles.kinds)
 
   -- the program of each tile is read from them
-  tile_program-read : (tile : ℕ) → tile < length listing.tiles.kinds → tile_program listing.tiles all_lines tile ≡ Ok (code_at tile)
+  tile_program-read : (tile : ℕ) → tile < length programs.tiles.kinds → tile_program programs.tiles all_lines tile ≡ Ok (code_at tile)
   tile_program-read tile inside =
-      elim (cases_Bool (computes listing.tiles tile)) [
+      elim (cases_Bool (computes programs.tiles tile)) [
         | inl computing ↦
-            ap (λ (b : Bool). cond b (in_block (block_of listing.tiles tile) (assembled_lines (block_lines (head_at tile) all_lines))) (Ok [])) computing
-            ∙ ap (in_block (block_of listing.tiles tile)) (ap assembled_lines (each_block tile 0 (length listing.tiles.kinds) (omega arith) (omega arith) (omega arith) computing) ∙ body-read (code_at tile) (is.short tile) (are tile))
+            ap (λ (b : Bool). cond b (in_block (block_of programs.tiles tile) (assembled_lines (block_lines (head_at tile) all_lines))) (Ok [])) computing
+            ∙ ap (in_block (block_of programs.tiles tile)) (ap assembled_lines (each_block tile 0 (length programs.tiles.kinds) (omega arith) (omega arith) (omega arith) computing) ∙ body-read (code_at tile) (is.short tile) (are tile))
         | inr resting ↦
-            ap (λ (b : Bool). cond b (in_block (block_of listing.tiles tile) (assembled_lines (block_lines (head_at tile) all_lines))) (Ok [])) resting
-            ∙ ap (λ (program : List Line). Ok program) (sym (no_program listing is tile resting))
+            ap (λ (b : Bool). cond b (in_block (block_of programs.tiles tile) (assembled_lines (block_lines (head_at tile) all_lines))) (Ok [])) resting
+            ∙ ap (λ (program : List MarkedInstr). Ok program) (sym (no_program programs is tile resting))
       ]
 
   -- and those of so many tiles from one on
-  programs-read : (start count : ℕ) → start + count ≤ length listing.tiles.kinds → programs_of listing.tiles all_lines (range_with_len start count) ≡ Ok (map (program_at listing.programs) (range_with_len start count))
+  programs-read : (start count : ℕ) → start + count ≤ length programs.tiles.kinds → programs_of programs.tiles all_lines (range_with_len start count) ≡ Ok (map (program_at programs.programs) (range_with_len start count))
   programs-read start zero inside = refl
   programs-read start (suc count) inside =
-      ap (λ (program : Result (List Line) SaveRefusal). with_program program (programs_of listing.tiles all_lines (range_with_len (start + 1) count))) (tile_program-read start (omega arith))
+      ap (λ (program : Result (List MarkedInstr) SaveRefusal). with_program program (programs_of programs.tiles all_lines (range_with_len (start + 1) count))) (tile_program-read start (omega arith))
       ∙ ap (with_program (Ok (code_at start))) (programs-read (start + 1) count (omega arith))
 
   -- the programs, tile by tile
-  each_program : map (program_at listing.programs) (range_with_len 0 (length listing.tiles.kinds)) ≡ listing.programs
+  each_program : map (program_at programs.programs) (range_with_len 0 (length programs.tiles.kinds)) ≡ programs.programs
   each_program =
-      let same : length (map (program_at listing.programs) (range_with_len 0 (length listing.tiles.kinds))) ≡ length listing.tiles.kinds = length-map-range_with_len (program_at listing.programs) 0 (length listing.tiles.kinds) in
-      ext_get_or [] (map (program_at listing.programs) (range_with_len 0 (length listing.tiles.kinds))) listing.programs (same ∙ sym is.one_each)
-      (λ tile lt. get_or-map-range_with_len (program_at listing.programs) 0 (length listing.tiles.kinds) tile tile [] (omega (arith, same)) (omega arith))
+      let same : length (map (program_at programs.programs) (range_with_len 0 (length programs.tiles.kinds))) ≡ length programs.tiles.kinds = length-map-range_with_len (program_at programs.programs) 0 (length programs.tiles.kinds) in
+      ext_get_or [] (map (program_at programs.programs) (range_with_len 0 (length programs.tiles.kinds))) programs.programs (same ∙ sym is.one_each)
+      (λ tile lt. get_or-map-range_with_len (program_at programs.programs) 0 (length programs.tiles.kinds) tile tile [] (omega (arith, same)) (omega arith))
 
-  -- the lines of a save are read as the listing
-  all_lines-read : save_of_lines all_lines listing.tiles ≡ Ok listing
+  -- the lines of a save are read as the programs
+  all_lines-read : save_of_lines all_lines programs.tiles ≡ Ok programs
   all_lines-read =
-      ap (λ (fault : Option SaveRefusal). listing_of listing.tiles fault (programs_of listing.tiles all_lines (range_with_len 0 (length listing.tiles.kinds)))) (lines_are_right 0 (length listing.tiles.kinds) [] (omega arith) (λ tile low inside computing. refl))
-      ∙ ap (listing_of listing.tiles None) (programs-read 0 (length listing.tiles.kinds) (omega arith) ∙ ap (λ (programs : List (List Line)). Ok programs) each_program)
+      ap (λ (fault : Option SaveRefusal). programs_read programs.tiles fault (programs_of programs.tiles all_lines (range_with_len 0 (length programs.tiles.kinds)))) (lines_are_right 0 (length programs.tiles.kinds) [] (omega arith) (λ tile low inside computing. refl))
+      ∙ ap (programs_read programs.tiles None) (programs-read 0 (length programs.tiles.kinds) (omega arith) ∙ ap (λ (programs : List (List MarkedInstr)). Ok programs) each_program)
 
-  -- the text of a save is read as the listing
-  pub save-read : save_of (save_text listing) listing.tiles ≡ Ok listing
+  -- the text of a save is read as the programs
+  pub save-read : save_of (save_text programs) programs.tiles ≡ Ok programs
   unfolding save_of
-  save-read = ap (λ (lines : List (List ℕ)). save_of_lines lines listing.tiles) (sections-lines listing (range_with_len 0 (length listing.tiles.kinds)) are small) ∙ all_lines-read
+  save-read = ap (λ (lines : List (List ℕ)). save_of_lines lines programs.tiles) (sections-lines programs (range_with_len 0 (length programs.tiles.kinds)) are small) ∙ all_lines-read
 
--- the canonical save of a listing whose numbers are values is read as that listing
+-- the canonical save of a programs whose numbers are values is read as that programs
 pub saves_read_back : SavesReadBack
-saves_read_back listing board is are = save-read listing (omega (arith, board.filled, ap (λ (columns : ℕ). columns * listing.tiles.shape.rows) board.allowed.0, ap (λ (rows : ℕ). 4 * rows) board.allowed.1)) is are
+saves_read_back programs board is are = save-read programs (omega (arith, board.filled, ap (λ (columns : ℕ). columns * programs.tiles.shape.rows) board.allowed.0, ap (λ (rows : ℕ). 4 * rows) board.allowed.1)) is are

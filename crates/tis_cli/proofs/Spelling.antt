@@ -12,7 +12,7 @@ use Rattle.tis_cli.specs.Column.{Column, IsColumn, IsBody, IsStage, StandInLine,
 use Rattle.tis_cli.specs.Reading.{behind, input_at, passed_at, output_at, channel_at, channels_at, process_at, processes_at, links_differ, all_differ, process_names, whole, column_at}
 use Rattle.tis_cli.proofs.Parts.{step, goes_on, glue, some_is, either_step, there, elsewhere, not_behind, behind_is, behind_again, name_is, name_again, position_is, position_again}
 use Rattle.tis_cli.proofs.BodyLines.{statement_text, body_text, body_is, body_again}
-use Rattle.tis_cli.proofs.Distinct.{All-first, All-others, All-front, All-last, columns_differ, differ_again}
+use Rattle.tis_cli.proofs.Distinct.{All-first, All-others, All-prefix, All-last, columns_differ, differ_again}
 
 -- ---- the text
 
@@ -407,7 +407,7 @@ column_again column is =
     let count = processes_count column is.in_line in
     let few : length column.channels < 3 = omega (arith, count, is.few) in
     let below = All-others IsName column.input (links_below column) is.links_named in
-    let channels_named : All IsName column.channels = All-front IsName column.channels column.output below in
+    let channels_named : All IsName column.channels = All-prefix IsName column.channels column.output below in
     let output_named : IsName column.output = All-last IsName column.channels column.output below in
     ap column_at (spelled column is)
     ∙ goes_on _ (input_again column.input column.position _ (All-first IsName column.input (links_below column) is.links_named) is.position)

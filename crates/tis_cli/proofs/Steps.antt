@@ -3,13 +3,13 @@ use Rattle.std.proofs.Common.{◌≡◌, ℕ, suc, ◌+◌, ◌-◌, ◌<◌, �
 use Rattle.std.specs.Prelude.{slice_get, slice_set, codes}
 use Rattle.std.proofs.lemmas.List.{drop_more, drop_all, take_more, map_push, length-map, length-take}
 use Rattle.std.proofs.lemmas.Option.{slice_get_within, get_or_from_slice_get}
-use Rattle.tis_asm.specs.declared.program.Line.{Line}
+use Rattle.tis_asm.specs.declared.program.MarkedInstr.{MarkedInstr}
 use Rattle.tis_cli.specs.declared.net_syntax.tree.Statement as held
 use Rattle.tis_cli.specs.declared.net_syntax.tree.ChannelLine as held_channel
 use Rattle.tis_cli.specs.Net.{Name, Statement, ChannelLine, Process}
 use Rattle.tis_cli.specs.Column.{channel_of}
 use Rattle.tis_cli.specs.Compiled.{pass_code, statement_code, code_of}
-use Rattle.tis_cli.specs.Tree.{statement_of, statements_of, channel_name, line_of}
+use Rattle.tis_cli.specs.NetView.{statement_view, statements_view, channel_name, channel_view}
 use Rattle.tis_cli.specs.Emission.{with_passes}
 use Rattle.tis_cli.specs.Reading.{either, followed_by, behind, operation_at, operations_at, channel_at, channels_at, process_at, processes_at}
 
@@ -91,18 +91,18 @@ processes_end tile read processes bytes = refl
 
 -- ---- placing
 
-pub passes_more : (tiles : List ℕ) (i tile : ℕ) (programs : List (List Line)) → slice_get tiles i ≡ Some tile → with_passes (drop i tiles) programs ≡ with_passes (drop (i + 1) tiles) (slice_set programs tile pass_code)
+pub passes_more : (tiles : List ℕ) (i tile : ℕ) (programs : List (List MarkedInstr)) → slice_get tiles i ≡ Some tile → with_passes (drop i tiles) programs ≡ with_passes (drop (i + 1) tiles) (slice_set programs tile pass_code)
 passes_more tiles i tile programs found = ap (λ (left : List ℕ). with_passes left programs) (drop_found tiles i tile found)
 
 -- one more channel that goes directly
-pub direct_push : (before after : List held_channel.ChannelLine) (name : Name) {via : Option (List ℕ)} → after ≡ before ++ record { name = name; via = via } ∷ [] → map line_of before ≡ map channel_of (map channel_name before) → via ≡ Some []
-    → map line_of after ≡ map channel_of (map channel_name after)
+pub direct_push : (before after : List held_channel.ChannelLine) (name : Name) {via : Option (List ℕ)} → after ≡ before ++ record { name = name; via = via } ∷ [] → map channel_view before ≡ map channel_of (map channel_name before) → via ≡ Some []
+    → map channel_view after ≡ map channel_of (map channel_name after)
 direct_push before after name {via} is direct none =
     let added : held_channel.ChannelLine = record { name = name; via = via } in
-    let one : line_of added ≡ channel_of name = ap (λ (v : Option (List ℕ)). let line : ChannelLine = record { name = name; via = v } in line) none in
-    ap (map line_of) is
-    ∙ map_push line_of before added
-    ∙ ap (λ (lines : List ChannelLine). lines ++ line_of added ∷ []) direct
+    let one : channel_view added ≡ channel_of name = ap (λ (v : Option (List ℕ)). let line : ChannelLine = record { name = name; via = v } in line) none in
+    ap (map channel_view) is
+    ∙ map_push channel_view before added
+    ∙ ap (λ (lines : List ChannelLine). lines ++ channel_view added ∷ []) direct
     ∙ ap (λ (line : ChannelLine). map channel_of (map channel_name before) ++ line ∷ []) one
     ∙ sym (map_push channel_of (map channel_name before) name)
     ∙ ap (map channel_of) (sym (map_push channel_name before added))
@@ -110,20 +110,20 @@ direct_push before after name {via} is direct none =
 
 -- ---- code
 
-pub code_length : (body : List held.Statement) (index : ℕ) (program : List Line) → program ≡ code_of (statements_of (take index body)) → length program ≤ index
+pub code_length : (body : List held.Statement) (index : ℕ) (program : List MarkedInstr) → program ≡ code_of (statements_view (take index body)) → length program ≤ index
 code_length body index program is =
-    let same : length program ≡ length (take index body) = ap length is ∙ length-map (statements_of (take index body)) statement_code ∙ length-map (take index body) statement_of in
+    let same : length program ≡ length (take index body) = ap length is ∙ length-map (statements_view (take index body)) statement_code ∙ length-map (take index body) statement_view in
     omega (arith, length-take index body)
 
 -- the code of one more statement
-pub code_push : (body : List held.Statement) (index : ℕ) (statement : held.Statement) (program : List Line) (line : Line) → slice_get body index ≡ Some statement → program ≡ code_of (statements_of (take index body))
-    → line ≡ statement_code (statement_of statement) → program ++ line ∷ [] ≡ code_of (statements_of (take (index + 1) body))
+pub code_push : (body : List held.Statement) (index : ℕ) (statement : held.Statement) (program : List MarkedInstr) (line : MarkedInstr) → slice_get body index ≡ Some statement → program ≡ code_of (statements_view (take index body))
+    → line ≡ statement_code (statement_view statement) → program ++ line ∷ [] ≡ code_of (statements_view (take (index + 1) body))
 code_push body index statement program line found is one =
-    ap (λ (lines : List Line). lines ++ line ∷ []) is
-    ∙ ap (λ (l : Line). code_of (statements_of (take index body)) ++ l ∷ []) one
-    ∙ sym (map_push statement_code (statements_of (take index body)) (statement_of statement))
-    ∙ ap code_of (sym (map_push statement_of (take index body) statement))
-    ∙ ap (λ (statements : List held.Statement). code_of (statements_of statements)) (sym (take_found body index statement found))
+    ap (λ (lines : List MarkedInstr). lines ++ line ∷ []) is
+    ∙ ap (λ (l : MarkedInstr). code_of (statements_view (take index body)) ++ l ∷ []) one
+    ∙ sym (map_push statement_code (statements_view (take index body)) (statement_view statement))
+    ∙ ap code_of (sym (map_push statement_view (take index body) statement))
+    ∙ ap (λ (statements : List held.Statement). code_of (statements_view statements)) (sym (take_found body index statement found))
 
 -- ---- the processes of a column
 

@@ -3,12 +3,12 @@ use Rattle.std.specs.Prelude.{◌≡◌, ◌≢◌, ℕ, ◌+◌, ◌*◌, ◌<�
 use Rattle.tis_base.specs.Prefix.{IsPrefixOf}
 use Rattle.tis_base.specs.declared.tiles.Dir.{Dir}
 use Rattle.tis_base.specs.declared.tiles.Dir.TheVariants.{Up, Down}
-use Rattle.tis_asm.specs.declared.program.Line.{Line}
+use Rattle.tis_asm.specs.declared.program.MarkedInstr.{MarkedInstr}
 use Rattle.tis_asm.specs.Node.{Node, fresh, wants, offers}
-use Rattle.tis_asm.specs.PortRuns.{Step, IsPortRun, after_steps, taken_from, given_to, own_count}
+use Rattle.tis_asm.specs.PortRuns.{Step, IsPortRun, after_steps, taken_from, given_to, local_count}
 use Rattle.tis_cli.specs.Net.{Name, Statement}
 use Rattle.tis_cli.specs.Column.{IsBody}
-use Rattle.tis_cli.specs.Process.{Streams, with_stream, Outcome, WaitsOn, OutOfFuel, rounds, beginning}
+use Rattle.tis_cli.specs.Process.{Streams, with_stream, Execution, WaitsOn, OutOfFuel, rounds, beginning}
 use Rattle.tis_cli.specs.Compiled.{code_of}
 
 -- these values under one name, and nothing under any other
@@ -16,21 +16,21 @@ abbrev pub stream_of : Name → List ℤ → Streams
 stream_of name values = with_stream (λ other. []) name values
 
 -- a process run over these values alone, with more rounds than it can begin
-abbrev pub process_over : List Statement → Name → List ℤ → Outcome
+abbrev pub process_over : List Statement → Name → List ℤ → Execution
 process_over body read values = rounds (length values + 1) body (beginning (stream_of read values))
 
--- after these steps the node is where the process is: it took from above alone and gave downwards alone; what it gave is a front of what the process sent; where it wants a value the process waits for one, and all that was sent is given; where it offers a value, that is the next one that was sent; there are at most eight local steps for each step of the process
-pub record BehavesAfter (program : List Line) (process : Outcome) (read written : Name) (steps : List Step) (node : Node) : Type 0 where
+-- after these steps the node is where the process is: it took from above alone and gave downwards alone; what it gave is a prefix of what the process sent; where it wants a value the process waits for one, and all that was sent is given; where it offers a value, that is the next one that was sent; there are at most eight local steps for each step of the process
+pub record BehavesAfter (program : List MarkedInstr) (process : Execution) (read written : Name) (steps : List Step) (node : Node) : Type 0 where
   pub takes_above : (dir : Dir) → dir ≢ Up → taken_from dir steps ≡ []
   pub gives_below : (dir : Dir) → dir ≢ Down → given_to dir steps ≡ []
-  pub front : IsPrefixOf (given_to Down steps) (process.doing.sent written)
-  pub waits : IsTrue (wants program node Up) → (process.ending ≡ WaitsOn read) × (given_to Down steps ≡ process.doing.sent written)
-  pub next : (value : ℤ) → offers node Down ≡ Some value → IsPrefixOf (given_to Down steps ++ value ∷ []) (process.doing.sent written)
-  pub local : own_count steps ≤ 8 * process.doing.steps
-  pub within_fuel : process.ending ≢ OutOfFuel
+  pub prefix : IsPrefixOf (given_to Down steps) (process.state.sent written)
+  pub waits : IsTrue (wants program node Up) → (process.outcome ≡ WaitsOn read) × (given_to Down steps ≡ process.state.sent written)
+  pub next : (value : ℤ) → offers node Down ≡ Some value → IsPrefixOf (given_to Down steps ++ value ∷ []) (process.state.sent written)
+  pub local : local_count steps ≤ 8 * process.state.steps
+  pub within_fuel : process.outcome ≢ OutOfFuel
 
 -- whatever its neighbours do, the program behaves as the process over the values that it took
-abbrev pub Behaves : List Line → List Statement → Name → Name → Type 0
+abbrev pub Behaves : List MarkedInstr → List Statement → Name → Name → Type 0
 Behaves program body read written = (steps : List Step) → IsPortRun program fresh steps → BehavesAfter program (process_over body read (taken_from Up steps)) read written steps (after_steps program fresh steps)
 
 -- the code of each process of a column behaves as the process
@@ -40,4 +40,4 @@ ProcessesBehave = (read written : Name) (body : List Statement) → IsBody read 
 -- over any streams, with more rounds than there are values to read, a process of a column comes to wait for one more value; so its fuel is never used up
 abbrev pub ProcessesWait : Type 0
 ProcessesWait = (read written : Name) (body : List Statement) → IsBody read written body → (streams : Streams) (fuel : ℕ) → length (streams read) < fuel →
-    (rounds fuel body (beginning streams)).ending ≡ WaitsOn read
+    (rounds fuel body (beginning streams)).outcome ≡ WaitsOn read

@@ -1,7 +1,7 @@
 -- What it means that a grid carries a network, whatever the order of its events.
 use Rattle.std.specs.Prelude.{◌≡◌, ℕ, ◌≤◌, List, length, All}
 use Rattle.tis_base.specs.Prefix.{IsPrefixOf}
-use Rattle.tis_asm.specs.Listing.{Listing}
+use Rattle.tis_asm.specs.Programs.{Programs}
 use Rattle.tis_grid.specs.declared.event.Event.{Event}
 use Rattle.tis_grid.specs.Puzzle.{Puzzle, IsPuzzle, HasOutput}
 use Rattle.tis_grid.specs.State.{Grid, outs, start}
@@ -14,9 +14,9 @@ pub record FitsNet (puzzle : Puzzle) (net : Net) : Type 0 where
   pub tiles : puzzle.tiles ≡ net.tiles
   pub outputs : All (λ port. HasOutput puzzle.outputs port.position) net.outputs
 
--- the grid of a puzzle and the programs of a listing
-abbrev pub grid_with : Puzzle → Listing → Grid
-grid_with puzzle listing = record { puzzle = puzzle; programs = listing.programs }
+-- the grid of a puzzle and the programs of a programs
+abbrev pub grid_with : Puzzle → Programs → Grid
+grid_with puzzle programs = record { puzzle = puzzle; programs = programs.programs }
 
 -- an order from the start: the outputs are prefixes of the network's streams, the order is no longer than the bound, and where no event can happen the outputs are those streams whole
 pub record FollowsNet (grid : Grid) (net : Net) (events : List Event) : Type 0 where
@@ -25,7 +25,7 @@ pub record FollowsNet (grid : Grid) (net : Net) (events : List Event) : Type 0 w
   pub whole : IsAtRest grid (after grid (start grid) events) → (position : ℕ) → outs (after grid (start grid) events) position ≡ kahn_at net grid.puzzle.inputs position
 
 -- for every puzzle that fits, with any inputs, every legal order follows the network
-abbrev pub Carries : Listing → Net → Type 0
-Carries listing net =
+abbrev pub Carries : Programs → Net → Type 0
+Carries programs net =
     (puzzle : Puzzle) → IsPuzzle puzzle → FitsNet puzzle net →
-    (events : List Event) → IsLegal (grid_with puzzle listing) (start (grid_with puzzle listing)) events → FollowsNet (grid_with puzzle listing) net events
+    (events : List Event) → IsLegal (grid_with puzzle programs) (start (grid_with puzzle programs)) events → FollowsNet (grid_with puzzle programs) net events

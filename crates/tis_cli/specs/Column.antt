@@ -1,14 +1,14 @@
 -- The networks that `compile` takes so far: processes down one column, each of which reads one value, computes and sends one value, round after round.
 use Rattle.std.specs.Prelude.{◌≡◌, ◌≢◌, ℕ, zero, suc, ◌+◌, ◌<◌, ◌≤◌, List, [], ◌∷◌, ◌++◌, length, map, replicate, All, AllPairs, Some}
 use Rattle.tis_base.specs.Saturation.{IsValue}
-use Rattle.tis_base.specs.Tiles.{Board}
+use Rattle.tis_base.specs.Tiles.{Tiles}
 use Rattle.tis_base.specs.declared.tiles.TileKind.TheVariants.{Compute}
 use Rattle.tis_cli.specs.Net.{Name, IsName, X, Statement, Get, Put, PutNumber, Move, Set, Add, Sub, Neg, Double, ChannelLine, Process, Net}
 use Rattle.tis_cli.specs.NetText.{net_text}
 
 -- twelve compute tiles
-abbrev pub plain_board : Board
-plain_board = record { shape = record { columns = 4; rows = 3 }; kinds = replicate 12 Compute }
+abbrev pub plain_tiles : Tiles
+plain_tiles = record { shape = record { columns = 4; rows = 3 }; kinds = replicate 12 Compute }
 
 -- a statement that computes with the variable and numbers, and neither reads nor sends
 abbrev pub IsOperation : Statement → Type 0
@@ -106,7 +106,7 @@ pub record IsColumn (column : Column) : Type 0 where
 abbrev pub column_net : Column → Net
 column_net column =
     record {
-      tiles = plain_board;
+      tiles = plain_tiles;
       inputs = record { name = column.input; position = column.position; via = Some [] } ∷ [];
       outputs = record { name = column.output; position = column.position; via = Some (tiles_below column.position (length column.processes)) } ∷ [];
       channels = map channel_of column.channels;

@@ -6,16 +6,16 @@ use Rattle.tis_asm.specs.declared.instr.Source.TheVariants as from
 use Rattle.tis_asm.specs.declared.instr.Dest.TheVariants as to
 use Rattle.tis_asm.specs.declared.instr.Instr.{Instr}
 use Rattle.tis_asm.specs.declared.instr.Instr.TheVariants as instr
-use Rattle.tis_asm.specs.declared.program.Line.{Line}
-use Rattle.tis_asm.specs.Listing.{Listing}
+use Rattle.tis_asm.specs.declared.program.MarkedInstr.{MarkedInstr}
+use Rattle.tis_asm.specs.Programs.{Programs}
 use Rattle.tis_cli.specs.Net.{X, Statement, Get, Put, PutNumber, Move, Set, Add, Sub, Neg, Double, PortLine, Process, Net}
 
 -- an instruction without a mark
-abbrev pub plain : Instr → Line
+abbrev pub plain : Instr → MarkedInstr
 plain instruction = record { instr = instruction; mark = false }
 
 -- the code of a statement, in a column: x is ACC, reads come from above and writes go downwards
-abbrev pub statement_code : Statement → Line
+abbrev pub statement_code : Statement → MarkedInstr
 statement_code (Get read X) = plain (instr.Mov (from.Port Up) to.Acc)
 statement_code (Put written X) = plain (instr.Mov from.Acc (to.Port Down))
 statement_code (PutNumber written number) = plain (instr.Mov (from.Number number) (to.Port Down))
@@ -26,11 +26,11 @@ statement_code (Sub X number) = plain (instr.Sub (from.Number number))
 statement_code (Neg X) = plain instr.Neg
 statement_code (Double X) = plain (instr.Add from.Acc)
 
-abbrev pub code_of : List Statement → List Line
+abbrev pub code_of : List Statement → List MarkedInstr
 code_of body = map statement_code body
 
 -- the program of a tile that a link passes, in a column
-abbrev pub pass_code : List Line
+abbrev pub pass_code : List MarkedInstr
 pass_code = plain (instr.Mov (from.Port Up) (to.Port Down)) ∷ []
 
 abbrev pub stands_at : Option ℕ → ℕ → Bool
@@ -38,7 +38,7 @@ stands_at None tile = false
 stands_at (Some at) tile = at == tile
 
 -- the code of the process that stands on a tile
-abbrev pub process_code_at : List Process → ℕ → Option (List Line)
+abbrev pub process_code_at : List Process → ℕ → Option (List MarkedInstr)
 process_code_at [] tile = None
 process_code_at (process ∷ processes) tile = if stands_at process.at tile then Some (code_of process.body) else process_code_at processes tile
 
@@ -46,8 +46,8 @@ abbrev pub passes : PortLine → ℕ → Bool
 passes port tile = list_any (λ passed. passed == tile) (unwrap_or port.via [])
 
 -- the code of a process on its tile, a MOV on each tile that an output passes, and nothing elsewhere
-abbrev pub program_for : Net → ℕ → List Line
+abbrev pub program_for : Net → ℕ → List MarkedInstr
 program_for net tile = unwrap_or (process_code_at net.processes tile) (if list_any (λ port. passes port tile) net.outputs then pass_code else [])
 
-abbrev pub compiled : Net → Listing
+abbrev pub compiled : Net → Programs
 compiled net = record { tiles = net.tiles; programs = map (program_for net) (range_with_len 0 (length net.tiles.kinds)) }

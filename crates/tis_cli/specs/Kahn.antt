@@ -2,7 +2,7 @@
 use Rattle.std.specs.Prelude.{ℕ, ◌+◌, ◌*◌, ℤ, List, [], ◌∷◌, ◌++◌, length, map, sum_by, ◌==◌, if◌then◌else◌}
 use Rattle.tis_grid.specs.Puzzle.{Input, values_at}
 use Rattle.tis_cli.specs.Net.{Name, PortLine, Process, Net}
-use Rattle.tis_cli.specs.Process.{Streams, with_stream, Outcome, rounds, beginning, reads, cost}
+use Rattle.tis_cli.specs.Process.{Streams, with_stream, Execution, rounds, beginning, reads, cost}
 
 -- what comes in, under the name of each input
 abbrev pub input_streams : List PortLine → List Input → Streams
@@ -22,7 +22,7 @@ abbrev pub step_limit : Net → Streams → Process → ℕ
 step_limit net streams process = (1 + read_count net streams process) * cost process
 
 -- a process run over whole streams, with more fuel than it can use
-abbrev pub run_of : Net → Streams → Process → Outcome
+abbrev pub run_of : Net → Streams → Process → Execution
 run_of net streams process = rounds (step_limit net streams process + 1) process.body (beginning streams)
 
 -- the streams, and behind them what was sent
@@ -32,7 +32,7 @@ joined streams sent = λ name. streams name ++ sent name
 -- each process in text order, over what comes in and what those before it sent
 abbrev pub streams_from : Net → List Process → Streams → Streams
 streams_from net [] streams = streams
-streams_from net (process ∷ processes) streams = streams_from net processes (joined streams (run_of net streams process).doing.sent)
+streams_from net (process ∷ processes) streams = streams_from net processes (joined streams (run_of net streams process).state.sent)
 
 -- the stream of each name
 abbrev pub kahn_streams : Net → List Input → Streams
@@ -47,9 +47,9 @@ abbrev pub kahn_at : Net → List Input → ℕ → List ℤ
 kahn_at net inputs position = stream_at net.outputs (kahn_streams net inputs) position
 
 -- the steps that all processes take at most
-abbrev pub all_steps : Net → List Input → ℕ
-all_steps net inputs = sum_by (step_limit net (kahn_streams net inputs)) net.processes
+abbrev pub step_limits : Net → List Input → ℕ
+step_limits net inputs = sum_by (step_limit net (kahn_streams net inputs)) net.processes
 
 -- how long an order is at most: 128 * T * (S + T), with T tiles and S steps of the processes
 abbrev pub bound : Net → List Input → ℕ
-bound net inputs = 128 * length net.tiles.kinds * (all_steps net inputs + length net.tiles.kinds)
+bound net inputs = 128 * length net.tiles.kinds * (step_limits net inputs + length net.tiles.kinds)

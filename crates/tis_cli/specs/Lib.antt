@@ -2,7 +2,7 @@ pub mod Net
 pub mod NetText
 pub mod Column
 pub mod Reading
-pub mod Tree
+pub mod NetView
 pub mod Compiled
 pub mod Emission
 pub mod Saves
@@ -11,6 +11,6 @@ pub mod Process
 pub mod Kahn
 pub mod Carries
 pub mod Outcomes
-pub mod Spoken
+pub mod CommandView
 pub mod Stage
 pub mod Behaves

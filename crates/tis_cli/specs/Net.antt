@@ -2,7 +2,7 @@
 use Rattle.std.specs.Prelude.{ℕ, ℤ, Bool, false, ◌&&◌, ◌||◌, List, [], ◌∷◌, length, Option, nat_le, IsTrue, ◌==◌}
 use Rattle.std.specs.Char.{is_ascii_alphabetic, is_ascii_alphanumeric}
 use Rattle.std.specs.List.{list_all}
-use Rattle.tis_base.specs.Tiles.{Board}
+use Rattle.tis_base.specs.Tiles.{Tiles}
 
 -- a name of a network, as its bytes
 abbrev pub Name : Type 0
@@ -63,7 +63,7 @@ pub record Process : Type 0 where
   pub body : List Statement
 
 pub record Net : Type 0 where
-  pub tiles : Board
+  pub tiles : Tiles
   pub inputs : List PortLine
   pub outputs : List PortLine
   pub channels : List ChannelLine

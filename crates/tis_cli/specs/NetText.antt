@@ -3,7 +3,7 @@ use Rattle.std.specs.Prelude.{ℕ, List, [], ◌∷◌, ◌++◌, map, flat_map,
 use Rattle.std.specs.Fmt.{signed_decimal}
 use Rattle.std.specs.List.{join_with_byte}
 use Rattle.tis_base.specs.Lines.{text_of_lines}
-use Rattle.tis_base.specs.Tiles.{Board}
+use Rattle.tis_base.specs.Tiles.{Tiles}
 use Rattle.tis_base.specs.declared.tiles.TileKind.{TileKind}
 use Rattle.tis_base.specs.declared.tiles.TileKind.TheVariants.{Compute, Memory, Damaged}
 use Rattle.tis_cli.specs.Net.{Var, X, Statement, Get, Put, PutNumber, Move, Set, Add, Sub, Neg, Double, PortLine, ChannelLine, Process, Net}
@@ -22,7 +22,7 @@ abbrev pub row_words : ℕ → ℕ → List TileKind → Words
 row_words columns zero kinds = []
 row_words columns (suc rows) kinds = map kind_letter (take columns kinds) ∷ row_words columns rows (drop columns kinds)
 
-abbrev pub tiles_line : Board → Words
+abbrev pub tiles_line : Tiles → Words
 tiles_line tiles = codes "tiles" ∷ row_words tiles.shape.columns tiles.shape.rows tiles.kinds
 
 abbrev pub via_words : Option (List ℕ) → Words

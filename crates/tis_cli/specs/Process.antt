@@ -13,7 +13,7 @@ abbrev pub with_stream : Streams → Name → List ℤ → Streams
 with_stream streams name values = λ other. if bytes_eq other name then values else streams other
 
 -- the two variables, what is left to read and what was sent under each name, and how many steps were begun
-pub record Doing : Type 0 where
+pub record ProcessState : Type 0 where
   pub x : ℤ
   pub y : ℤ
   pub unread : Streams
@@ -21,78 +21,78 @@ pub record Doing : Type 0 where
   pub steps : ℕ
 
 -- how a run ends: all was done, a read waits for a value that isn't there, or the fuel is used up
-pub data Ending : Type 0 where
-  Finished : Ending
-  WaitsOn : (name : Name) → Ending
-  OutOfFuel : Ending
+pub data Outcome : Type 0 where
+  Finished : Outcome
+  WaitsOn : (name : Name) → Outcome
+  OutOfFuel : Outcome
 
-pub record Outcome : Type 0 where
-  pub doing : Doing
-  pub ending : Ending
+pub record Execution : Type 0 where
+  pub state : ProcessState
+  pub outcome : Outcome
 
-abbrev pub finished : Doing → Outcome
-finished doing = record { doing = doing; ending = Finished }
+abbrev pub finished : ProcessState → Execution
+finished state = record { state = state; outcome = Finished }
 
 -- what comes next is done only where all before it was done
-abbrev pub followed : Ending → Doing → (Doing → Outcome) → Outcome
-followed Finished doing next = next doing
-followed (WaitsOn name) doing next = record { doing = doing; ending = WaitsOn name }
-followed OutOfFuel doing next = record { doing = doing; ending = OutOfFuel }
+abbrev pub followed : Outcome → ProcessState → (ProcessState → Execution) → Execution
+followed Finished state next = next state
+followed (WaitsOn name) state next = record { state = state; outcome = WaitsOn name }
+followed OutOfFuel state next = record { state = state; outcome = OutOfFuel }
 
-abbrev pub and_then : Outcome → (Doing → Outcome) → Outcome
-and_then outcome next = followed outcome.ending outcome.doing next
+abbrev pub and_then : Execution → (ProcessState → Execution) → Execution
+and_then execution next = followed execution.outcome execution.state next
 
 -- one more step
-abbrev pub stepped : Doing → Doing
-stepped doing = record doing { steps = doing.steps + 1 }
+abbrev pub stepped : ProcessState → ProcessState
+stepped state = record state { steps = state.steps + 1 }
 
 -- a read of the first value that is left under a name
-abbrev pub read_first : List ℤ → Name → Doing → (ℤ → Doing → Outcome) → Outcome
-read_first [] name doing next = record { doing = doing; ending = WaitsOn name }
-read_first (value ∷ values) name doing next = next value (record doing { unread = with_stream doing.unread name values })
+abbrev pub read_first : List ℤ → Name → ProcessState → (ℤ → ProcessState → Execution) → Execution
+read_first [] name state next = record { state = state; outcome = WaitsOn name }
+read_first (value ∷ values) name state next = next value (record state { unread = with_stream state.unread name values })
 
-abbrev pub read_from : Name → Doing → (ℤ → Doing → Outcome) → Outcome
-read_from name doing next = read_first (doing.unread name) name doing next
+abbrev pub read_from : Name → ProcessState → (ℤ → ProcessState → Execution) → Execution
+read_from name state next = read_first (state.unread name) name state next
 
 -- a value is sent behind those that were sent before
-abbrev pub send : Name → ℤ → Doing → Doing
-send name value doing = record doing { sent = with_stream doing.sent name (doing.sent name ++ value ∷ []) }
+abbrev pub send : Name → ℤ → ProcessState → ProcessState
+send name value state = record state { sent = with_stream state.sent name (state.sent name ++ value ∷ []) }
 
 -- the value of a variable, and another one in its place
-abbrev pub value_in : Var → Doing → ℤ
-value_in X doing = doing.x
+abbrev pub value_in : Var → ProcessState → ℤ
+value_in X state = state.x
 
-abbrev pub with_value : Var → ℤ → Doing → Doing
-with_value X value doing = record doing { x = value }
+abbrev pub with_value : Var → ℤ → ProcessState → ProcessState
+with_value X value state = record state { x = value }
 
 -- one statement, of which the step is counted; sums, differences and negatives are held within the values of the machine
-abbrev pub does : Statement → Doing → Outcome
-does (Get read var) doing = read_from read doing (λ value after. finished (with_value var value after))
-does (Put written var) doing = finished (send written (value_in var doing) doing)
-does (PutNumber written number) doing = finished (send written number doing)
-does (Move read written) doing = read_from read doing (λ value after. finished (send written value after))
-does (Set var number) doing = finished (with_value var number doing)
-does (Add var number) doing = finished (with_value var (sat (value_in var doing +ℤ number)) doing)
-does (Sub var number) doing = finished (with_value var (sat (value_in var doing -ℤ number)) doing)
-does (Neg var) doing = finished (with_value var (sat (neg_ℤ (value_in var doing))) doing)
-does (Double var) doing = finished (with_value var (sat (value_in var doing +ℤ value_in var doing)) doing)
+abbrev pub does : Statement → ProcessState → Execution
+does (Get read var) state = read_from read state (λ value after. finished (with_value var value after))
+does (Put written var) state = finished (send written (value_in var state) state)
+does (PutNumber written number) state = finished (send written number state)
+does (Move read written) state = read_from read state (λ value after. finished (send written value after))
+does (Set var number) state = finished (with_value var number state)
+does (Add var number) state = finished (with_value var (sat (value_in var state +ℤ number)) state)
+does (Sub var number) state = finished (with_value var (sat (value_in var state -ℤ number)) state)
+does (Neg var) state = finished (with_value var (sat (neg_ℤ (value_in var state))) state)
+does (Double var) state = finished (with_value var (sat (value_in var state +ℤ value_in var state)) state)
 
 -- one statement, which is one step
-abbrev pub exec_statement : ℕ → Statement → Doing → Outcome
-exec_statement fuel statement doing = does statement (stepped doing)
+abbrev pub exec_statement : ℕ → Statement → ProcessState → Execution
+exec_statement fuel statement state = does statement (stepped state)
 
 -- the statements of a block, one after the other
-abbrev pub exec : ℕ → List Statement → Doing → Outcome
-exec fuel [] doing = finished doing
-exec fuel (statement ∷ body) doing = and_then (exec_statement fuel statement doing) (exec fuel body)
+abbrev pub exec : ℕ → List Statement → ProcessState → Execution
+exec fuel [] state = finished state
+exec fuel (statement ∷ body) state = and_then (exec_statement fuel statement state) (exec fuel body)
 
 -- round after round, each of which is begun by one step; the fuel is how many rounds are begun at most
-abbrev pub rounds : ℕ → List Statement → Doing → Outcome
-rounds zero body doing = record { doing = doing; ending = OutOfFuel }
-rounds (suc fuel) body doing = and_then (exec fuel body (stepped doing)) (rounds fuel body)
+abbrev pub rounds : ℕ → List Statement → ProcessState → Execution
+rounds zero body state = record { state = state; outcome = OutOfFuel }
+rounds (suc fuel) body state = and_then (exec fuel body (stepped state)) (rounds fuel body)
 
 -- a process at its start, over the streams that it can read
-abbrev pub beginning : Streams → Doing
+abbrev pub beginning : Streams → ProcessState
 beginning streams = record { x = pos 0; y = pos 0; unread = streams; sent = λ name. []; steps = 0 }
 
 -- ---- what is known from the statements alone

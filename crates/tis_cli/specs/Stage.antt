@@ -4,9 +4,9 @@ use Rattle.tis_base.specs.Prefix.{IsPrefixOf}
 use Rattle.tis_base.specs.Tiles.{IsCompute}
 use Rattle.tis_base.specs.declared.tiles.Dir.{Dir}
 use Rattle.tis_base.specs.declared.tiles.Dir.TheVariants.{Up, Down}
-use Rattle.tis_asm.specs.declared.program.Line.{Line}
+use Rattle.tis_asm.specs.declared.program.MarkedInstr.{MarkedInstr}
 use Rattle.tis_asm.specs.Node.{Node, fresh, can_local, wants, offers}
-use Rattle.tis_asm.specs.PortRuns.{Step, IsPortRun, after_steps, taken_from, given_to, own_count}
+use Rattle.tis_asm.specs.PortRuns.{Step, IsPortRun, after_steps, taken_from, given_to, local_count}
 use Rattle.tis_grid.specs.declared.event.Event.{Event}
 use Rattle.tis_grid.specs.Puzzle.{HasOutput, values_at}
 use Rattle.tis_grid.specs.State.{Grid, outs, start}
@@ -14,30 +14,30 @@ use Rattle.tis_grid.specs.Events.{program_of, next_tile, bottom_of}
 use Rattle.tis_grid.specs.Orders.{after, IsAtRest}
 
 -- what a stage can do next: a local step, or take a value from above, or give one downwards
-pub data Next (program : List Line) (node : Node) : Type 0 where
+pub data Next (program : List MarkedInstr) (node : Node) : Type 0 where
   GoesOn : IsTrue (can_local program node) → Next program node
   WaitsAbove : IsTrue (wants program node Up) → Next program node
   GivesBelow : (value : ℤ) → offers node Down ≡ Some value → Next program node
 
 -- after these steps: values were taken from above alone and given downwards alone, those that were given are the first ones of what the function makes of those that were taken, and all of them where the node waits for more; it is never stuck, and its local steps are bounded
-pub record WorksAs (program : List Line) (makes : List ℤ → List ℤ) (most_local : ℕ → ℕ) (steps : List Step) (node : Node) : Type 0 where
+pub record WorksAs (program : List MarkedInstr) (makes : List ℤ → List ℤ) (most_local : ℕ → ℕ) (steps : List Step) (node : Node) : Type 0 where
   pub takes_above : (dir : Dir) → dir ≢ Up → taken_from dir steps ≡ []
   pub gives_below : (dir : Dir) → dir ≢ Down → given_to dir steps ≡ []
-  pub front : IsPrefixOf (given_to Down steps) (makes (taken_from Up steps))
+  pub prefix : IsPrefixOf (given_to Down steps) (makes (taken_from Up steps))
   pub whole : IsTrue (wants program node Up) → given_to Down steps ≡ makes (taken_from Up steps)
   pub next : Next program node
-  pub local : own_count steps ≤ most_local (length (taken_from Up steps))
+  pub local : local_count steps ≤ most_local (length (taken_from Up steps))
 
 -- whatever its neighbours do, the program works as the function says; more values from above change nothing of what was made before, and no more values are made than came
-pub record IsStage (program : List Line) (makes : List ℤ → List ℤ) (most_local : ℕ → ℕ) : Type 0 where
+pub record IsStage (program : List MarkedInstr) (makes : List ℤ → List ℤ) (most_local : ℕ → ℕ) : Type 0 where
   pub works : (steps : List Step) → IsPortRun program fresh steps → WorksAs program makes most_local steps (after_steps program fresh steps)
-  pub keeps_fronts : (front whole : List ℤ) → IsPrefixOf front whole → IsPrefixOf (makes front) (makes whole)
+  pub keeps_prefixes : (prefix whole : List ℤ) → IsPrefixOf prefix whole → IsPrefixOf (makes prefix) (makes whole)
   pub no_longer : (values : List ℤ) → length (makes values) ≤ length values
   pub grows : (few many : ℕ) → few ≤ many → most_local few ≤ most_local many
 
 -- a program with the function that it works as, and the most local steps that it takes for so many values
 pub record Stage : Type 0 where
-  pub program : List Line
+  pub program : List MarkedInstr
   pub makes : List ℤ → List ℤ
   pub most_local : ℕ → ℕ
   pub is_stage : IsStage program makes most_local
@@ -72,15 +72,15 @@ IsAmong grid tile first [] = ⊥
 IsAmong grid tile first (stage ∷ stages) = (tile ≡ first) ⊎ IsAmong grid tile (below grid first) stages
 
 -- the stages stand down one column, from the top row to the bottom row, and no other tile has instructions
-pub record IsStack (grid : Grid) (position : ℕ) (stage : Stage) (stages : List Stage) : Type 0 where
+pub record IsPipeline (grid : Grid) (position : ℕ) (stage : Stage) (stages : List Stage) : Type 0 where
   pub inside : position < grid.puzzle.tiles.shape.columns
   pub stand : StandDown grid position position stage stages
   pub elsewhere : (tile : ℕ) → IsAmong grid tile position (stage ∷ stages) ⊎ (program_of grid tile ≡ [])
   pub other_bottoms : (other : ℕ) → other < grid.puzzle.tiles.shape.columns → other ≢ position → program_of grid (bottom_of grid other) ≡ []
 
--- an order from the start: the output of the column is a front of what the stages make of its input, no other output has a value, the number of events is bounded, and where no event can happen the output is all that the stages make
-pub record FollowsStack (grid : Grid) (position : ℕ) (stages : List Stage) (events : List Event) : Type 0 where
-  pub front : IsPrefixOf (outs (after grid (start grid) events) position) (made_by stages (values_at grid.puzzle.inputs position))
+-- an order from the start: the output of the column is a prefix of what the stages make of its input, no other output has a value, the number of events is bounded, and where no event can happen the output is all that the stages make
+pub record FollowsPipeline (grid : Grid) (position : ℕ) (stages : List Stage) (events : List Event) : Type 0 where
+  pub prefix : IsPrefixOf (outs (after grid (start grid) events) position) (made_by stages (values_at grid.puzzle.inputs position))
   pub others : (other : ℕ) → other ≢ position → outs (after grid (start grid) events) other ≡ []
   pub bounded : length events ≤ length grid.puzzle.tiles.kinds * most_steps stages (length (values_at grid.puzzle.inputs position))
   pub whole : HasOutput grid.puzzle.outputs position → IsAtRest grid (after grid (start grid) events) → outs (after grid (start grid) events) position ≡ made_by stages (values_at grid.puzzle.inputs position)

@@ -2,7 +2,7 @@
 ghost use Rattle.std.specs.Prelude.{◌≡◌, string_bytes};
 ghost use Rattle.tis_cli.specs.Commands.{command_of};
 ghost use Rattle.tis_cli.specs.Outcomes.{words_of};
-ghost use Rattle.tis_cli.specs.Spoken.{IsSpoken};
+ghost use Rattle.tis_cli.specs.CommandView.{IsSpoken};
 
 /// A command with its words.
 #[derive(Clone, Copy, Debug)]

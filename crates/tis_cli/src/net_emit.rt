@@ -1,11 +1,11 @@
 //! The programs of a network.
 ghost use Rattle.std.specs.Prelude.{◌≡◌, ◌<◌, ◌+◌, ◌∷◌, [], false, map, All, IfSome};
 ghost use Rattle.tis_base.specs.Answers.{Gives};
-ghost use Rattle.tis_base.specs.Tiles.{Board};
-ghost use Rattle.tis_cli.specs.Column.{plain_board};
+ghost use Rattle.tis_base.specs.Tiles.{Tiles};
+ghost use Rattle.tis_cli.specs.Column.{plain_tiles};
 ghost use Rattle.tis_cli.specs.Compiled.{pass_code, statement_code, code_of, compiled};
 ghost use Rattle.tis_cli.specs.Emission.{put_on, with_processes, with_passes, with_links};
-ghost use Rattle.tis_cli.specs.Tree.{statement_of, statements_of, port_of, process_of, net_of, IsTaken};
+ghost use Rattle.tis_cli.specs.NetView.{statement_view, statements_view, port_view, process_view, net_view, IsTaken};
 
 use crate::net_syntax::{Block, Net, Path, PortLine, ProcessText, Statement};
 use std::alloc::Global;
@@ -14,7 +14,7 @@ use tis_base::{Dir, NoMemory, Tile};
 
 // The instruction of a statement.
 fn instr_of(statement: &Statement) -> Instr
-    ensures { record { instr = result; mark = false } ≡ statement_code (statement_of statement.now) }
+    ensures { record { instr = result; mark = false } ≡ statement_code (statement_view statement.now) }
 {
     match statement {
         Statement::Get(..) => Instr::Mov(Source::Port(Dir::Up), Dest::Acc),
@@ -34,7 +34,7 @@ fn instr_of(statement: &Statement) -> Instr
 
 // The program of a process: an instruction for each statement.
 fn program_of(body: &Block) -> Program
-    ensures { result ≡ code_of (statements_of body.now) }
+    ensures { result ≡ code_of (statements_view body.now) }
 {
     let mut program = Program::new();
     for index in 0..body.len() {
@@ -55,9 +55,9 @@ fn pass_program() -> Program
 
 // Puts the program of a process on its tile.
 fn place_process(programs: &mut Programs, process: &ProcessText)
-    requires board { programs.old.tiles ≡ plain_board }
-    requires on_board { IfSome process.now.at (λ tile. tile < 12) }
-    ensures { programs.new ≡ record programs.old { programs = put_on process.now.at (code_of (statements_of process.now.body)) programs.old.programs } }
+    requires board { programs.old.tiles ≡ plain_tiles }
+    requires on_grid { IfSome process.now.at (λ tile. tile < 12) }
+    ensures { programs.new ≡ record programs.old { programs = put_on process.now.at (code_of (statements_view process.now.body)) programs.old.programs } }
 {
     if let Some(number) = process.at {
         programs.set(Tile { number }, program_of(&process.body));
@@ -66,9 +66,9 @@ fn place_process(programs: &mut Programs, process: &ProcessText)
 
 // Puts the programs of the processes on their tiles.
 fn place_processes(programs: &mut Programs, processes: &[ProcessText])
-    requires board { programs.old.tiles ≡ plain_board }
-    requires on_board { All (λ process. IfSome process.at (λ tile. tile < 12)) processes.now }
-    ensures { programs.new ≡ record programs.old { programs = with_processes (map process_of processes.now) programs.old.programs } }
+    requires board { programs.old.tiles ≡ plain_tiles }
+    requires on_grid { All (λ process. IfSome process.at (λ tile. tile < 12)) processes.now }
+    ensures { programs.new ≡ record programs.old { programs = with_processes (map process_view processes.now) programs.old.programs } }
 {
     for process in processes {
         place_process(programs, process);
@@ -77,8 +77,8 @@ fn place_processes(programs: &mut Programs, processes: &[ProcessText])
 
 // Puts a program that passes values on each tile of the path.
 fn place_passes(programs: &mut Programs, path: &Path)
-    requires board { programs.old.tiles ≡ plain_board }
-    requires on_board { All (λ tile. tile < 12) path.now }
+    requires board { programs.old.tiles ≡ plain_tiles }
+    requires on_grid { All (λ tile. tile < 12) path.now }
     ensures { programs.new ≡ record programs.old { programs = with_passes path.now programs.old.programs } }
 {
     for index in 0..path.len() {
@@ -89,9 +89,9 @@ fn place_passes(programs: &mut Programs, path: &Path)
 
 // Puts a program that passes values on each tile that these links pass.
 fn place_links(programs: &mut Programs, ports: &[PortLine])
-    requires board { programs.old.tiles ≡ plain_board }
-    requires on_board { All (λ port. IfSome port.via (All (λ tile. tile < 12))) ports.now }
-    ensures { programs.new ≡ record programs.old { programs = with_links (map port_of ports.now) programs.old.programs } }
+    requires board { programs.old.tiles ≡ plain_tiles }
+    requires on_grid { All (λ port. IfSome port.via (All (λ tile. tile < 12))) ports.now }
+    ensures { programs.new ≡ record programs.old { programs = with_links (map port_view ports.now) programs.old.programs } }
 {
     for port in ports {
         if let Some(path) = &port.via {
@@ -103,8 +103,8 @@ fn place_links(programs: &mut Programs, ports: &[PortLine])
 /// The programs that carry the network: the code of each process on its tile, and a `MOV` on each
 /// tile that its output passes.
 pub fn emit(alloc: Global, net: &Net) -> Result<Programs, NoMemory>
-    requires { IsTaken (net_of net.now) }
-    ensures { Gives (λ programs. programs) result (compiled (net_of net.now)) }
+    requires { IsTaken (net_view net.now) }
+    ensures { Gives (λ programs. programs) result (compiled (net_view net.now)) }
 {
     let mut programs = Programs::empty(alloc, net.tiles)?;
     place_processes(&mut programs, &net.processes);

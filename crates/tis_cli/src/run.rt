@@ -4,7 +4,7 @@ ghost use Rattle.tis_cli.specs.declared.status.Refusal.{Refusal};
 ghost use Rattle.tis_base.specs.Outside.{Texts, text_at, Rose};
 ghost use Rattle.tis_cli.specs.Commands.{command_of};
 ghost use Rattle.tis_cli.specs.Net.{Net};
-ghost use Rattle.tis_cli.specs.Spoken.{held_command};
+ghost use Rattle.tis_cli.specs.CommandView.{command_view};
 ghost use Rattle.tis_cli.specs.Column.{NetOf};
 ghost use Rattle.tis_cli.specs.Outcomes.{words_of, ended, Explains, ExplainsCommand, Compiles, IsRefused, Saved, IsUnlessFault};
 
@@ -33,7 +33,7 @@ fn compile<S: Store>(alloc: Global, net: &str, save: &str, store: &mut S) -> Res
 
 // Does what a command says.
 fn perform<S: Store>(alloc: Global, command: Command, store: &mut S) -> Status
-    ensures explains { ExplainsCommand (S.texts store.old) (held_command command.entry) result (S.texts store.new) }
+    ensures explains { ExplainsCommand (S.texts store.old) (command_view command.entry) result (S.texts store.new) }
     ensures texts_stay { result ≢ Status.Done → S.texts store.new ≡ S.texts store.old }
     ensures missing_counted { result ≡ Status.Missing → Rose (S.misses store.old) (S.misses store.new) }
     ensures fault_counted { result ≡ Status.StoreFault → Rose (S.faults store.old) (S.faults store.new) }

@@ -2,10 +2,10 @@
 use Rattle.std.proofs.Common.{◌≡◌, ◌≢◌, ℕ, ◌<◌, List, [], ◌∷◌, ◌++◌, length, get_or, set, inl, inr, sym, ap, ◌∙◌, subst, arith}
 use Rattle.std.proofs.lemmas.Bool.{cases_eq}
 use Rattle.std.proofs.lemmas.List.{append-nil, get_or-set_same, get_or-set_other, length-set}
-use Rattle.tis_asm.specs.declared.program.Line.{Line}
+use Rattle.tis_asm.specs.declared.program.MarkedInstr.{MarkedInstr}
 use Rattle.tis_asm.specs.Node.{Node, fresh}
 use Rattle.tis_asm.specs.PortRuns.{Step, IsStep, after_step}
-use Rattle.tis_grid.specs.OwnSteps.{step_at}
+use Rattle.tis_grid.specs.TileSteps.{step_at}
 use Rattle.tis_grid.proofs.Ports.{own_step, other_step}
 use Rattle.tis_grid.proofs.Runs.{Does, does_nothing, does_one, does_then}
 
@@ -14,7 +14,7 @@ abbrev pub node_of : List Node → ℕ → Node
 node_of nodes tile = get_or nodes tile fresh
 
 -- the nodes after a tile made a step
-abbrev pub stepped : (ℕ → List Line) → List Node → ℕ → Step → List Node
+abbrev pub stepped : (ℕ → List MarkedInstr) → List Node → ℕ → Step → List Node
 stepped program nodes actor step = set nodes actor (after_step (program actor) (node_of nodes actor) step)
 
 -- the steps of two tiles in either order
@@ -29,7 +29,7 @@ swapped tile giver taker gave took apart =
           ap (λ (steps : List Step). step_at tile taker took ++ steps) none ∙ append-nil (step_at tile taker took) ∙ ap (λ (steps : List Step). steps ++ step_at tile taker took) (sym none)
     ]
 
-module _ (program : ℕ → List Line) where
+module _ (program : ℕ → List MarkedInstr) where
   -- a tile makes a step, and the others none
   pub acts : (nodes : List Node) (actor : ℕ) (step : Step) (tile : ℕ) → actor < length nodes → IsStep (program actor) (node_of nodes actor) step → Does (program tile) (node_of nodes tile) (step_at tile actor step) (node_of (stepped program nodes actor step) tile)
   acts nodes actor step tile within is =

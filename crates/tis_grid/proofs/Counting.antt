@@ -7,13 +7,14 @@ use Rattle.std.proofs.lemmas.Option.{slice_get_within}
 use Rattle.tis_base.specs.Tiles.{IsCompute, opposite}
 use Rattle.tis_base.specs.declared.tiles.Dir.TheVariants.{Up, Down}
 use Rattle.tis_base.specs.declared.tiles.TileKind.TheVariants.{Compute}
-use Rattle.tis_asm.specs.PortRuns.{Step, Own, Took, Gave}
+use Rattle.tis_asm.specs.PortRuns.{Step, Took, Gave}
+use Rattle.tis_asm.specs.PortRuns as port
 use Rattle.tis_grid.specs.declared.event.Event.{Event}
 use Rattle.tis_grid.specs.declared.event.Event.TheVariants.{Local, Meet, In, Out, Push, Pop}
 use Rattle.tis_grid.specs.State.{Grid, State, stack_at, next_value}
 use Rattle.tis_grid.specs.Events.{bottom_of, IsEnabled, offered, reached, newest, after_event}
 use Rattle.tis_grid.specs.Orders.{IsLegal}
-use Rattle.tis_grid.specs.OwnSteps.{step_at, steps_in, steps_of}
+use Rattle.tis_grid.specs.TileSteps.{step_at, steps_in, steps_of}
 use Rattle.tis_grid.proofs.Ports.{own_step}
 
 -- ---- sums
@@ -48,7 +49,7 @@ one_step tile step = let one : length (step_at tile tile step) ≡ 1 = ap length
 module _ (grid : Grid) where
   -- each event is a step of the tile that it names
   actor : (state : State) (event : Event) → IsEnabled grid state event → Actor grid state event
-  actor state (Local at) is = record { tile = at.number; within = compute_below grid at.number is.0; some = one_step at.number Own }
+  actor state (Local at) is = record { tile = at.number; within = compute_below grid at.number is.0; some = one_step at.number port.Local }
   actor state (Meet at dir) is =
       let value = offered state at.number dir in
       let others = step_at at.number (reached grid at.number dir) (Took (opposite dir) value) in

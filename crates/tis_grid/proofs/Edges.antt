@@ -12,9 +12,9 @@ use Rattle.tis_grid.specs.Puzzle.{values_at}
 use Rattle.tis_grid.specs.State.{Grid, IsGrid, State, stack_at, left_at, outs, next_value}
 use Rattle.tis_grid.specs.Events.{next_tile, bottom_of, IsEnabled, offered, reached, newest, after_event}
 use Rattle.tis_grid.specs.Orders.{Fits, after, IsLegal}
-use Rattle.tis_grid.specs.OwnSteps.{step_at, steps_in, steps_of, values_left}
+use Rattle.tis_grid.specs.TileSteps.{step_at, steps_in, steps_of, values_left}
 use Rattle.tis_grid.proofs.Places.{none_above, not_top, none_below, some_rows}
-use Rattle.tis_grid.proofs.Ports.{opposite_twice, given_append, taken_append, own_gives_none, own_takes_none, took_gives_none, gave_takes_none, gives_none, takes_none, gives_here, takes_here}
+use Rattle.tis_grid.proofs.Ports.{opposite_twice, given_append, taken_append, local_gives_none, local_takes_none, took_gives_none, gave_takes_none, gives_none, takes_none, gives_here, takes_here}
 use Rattle.tis_grid.proofs.Enabled.{meeting}
 use Rattle.tis_grid.proofs.Fitting.{event_fitting}
 
@@ -29,7 +29,7 @@ module _ (grid : Grid) (is_grid : IsGrid grid) (position : ℕ) (within : positi
 
   -- an event that takes nothing from above leaves the input as it is
   untouched : (state : State) (taken : List ℤ) → taken ≡ [] → values_left grid state position ≡ taken ++ values_left grid state position
-  untouched state taken none = ap (λ (front : List ℤ). front ++ values_left grid state position) (sym none)
+  untouched state taken none = ap (λ (prefix : List ℤ). prefix ++ values_left grid state position) (sym none)
 
   -- the tile below an input takes its next value
   own_input : (state : State) → Fits grid state → 0 < left_at state position → values_left grid state position ≡ taken_from Up (steps_in grid state (In position) position) ++ values_left grid (after_event grid state (In position)) position
@@ -39,18 +39,18 @@ module _ (grid : Grid) (is_grid : IsGrid grid) (position : ℕ) (within : positi
       let next = next_value grid state position in
       let fewer : get_or (set state.left position (left - 1)) position 0 ≡ left - 1 = get_or-set_same state.left position (left - 1) 0 (omega (arith, fits.left)) in
       next_then_rest values left some (fits.within position)
-      ∙ ap₂ (λ (front : List ℤ) (n : ℕ). front ++ drop (length values - n) values) (sym (takes_here Up position position Up next refl refl)) (sym fewer)
+      ∙ ap₂ (λ (prefix : List ℤ) (n : ℕ). prefix ++ drop (length values - n) values) (sym (takes_here Up position position Up next refl refl)) (sym fewer)
 
   -- what another input loses the tile below this one does not take
   other_input : (state : State) (at : ℕ) → (position ≡ at → ⊥) → values_left grid state position ≡ taken_from Up (steps_in grid state (In at) position) ++ values_left grid (after_event grid state (In at)) position
   other_input state at apart =
       let values = values_at grid.puzzle.inputs position in
       let same = get_or-set_other state.left at position (left_at state at - 1) 0 apart in
-      ap₂ (λ (front : List ℤ) (n : ℕ). front ++ drop (length values - n) values) (sym (takes_none Up position at Up (next_value grid state at) (λ here up. apart (sym here)))) (sym same)
+      ap₂ (λ (prefix : List ℤ) (n : ℕ). prefix ++ drop (length values - n) values) (sym (takes_none Up position at Up (next_value grid state at) (λ here up. apart (sym here)))) (sym same)
 
   -- what an event takes from an input the tile below it takes
   event_takes : (state : State) (event : Event) → Fits grid state → IsEnabled grid state event → values_left grid state position ≡ taken_from Up (steps_in grid state event position) ++ values_left grid (after_event grid state event) position
-  event_takes state (Local at) fits is = untouched state _ (own_takes_none Up position at.number)
+  event_takes state (Local at) fits is = untouched state _ (local_takes_none Up position at.number)
   event_takes state (Meet at port) fits is =
       let meets = meeting grid state at port is in
       let taker = reached grid at.number port in
@@ -58,7 +58,7 @@ module _ (grid : Grid) (is_grid : IsGrid grid) (position : ℕ) (within : positi
       let none : taken_from Up (step_at position taker (Took (opposite port) value)) ≡ [] = takes_none Up position taker (opposite port) value (λ same up.
       let down : port ≡ Down = sym (opposite_twice port) ∙ ap opposite up in
       not_top grid.puzzle.tiles.shape at.number position within (ap (λ (d : Dir). next_tile grid at.number d) (sym down) ∙ meets.next ∙ ap Some same)) in
-      untouched state _ (taken_append Up (step_at position at.number (Gave port value)) (step_at position taker (Took (opposite port) value)) ∙ ap₂ (λ front rest. front ++ rest) (gave_takes_none Up position at.number port value) none)
+      untouched state _ (taken_append Up (step_at position at.number (Gave port value)) (step_at position taker (Took (opposite port) value)) ∙ ap₂ (λ prefix rest. prefix ++ rest) (gave_takes_none Up position at.number port value) none)
   event_takes state (In at) fits is =
       elim (cases_eq position at) [
         | inl here ↦ subst (λ (p : ℕ). values_left grid state position ≡ taken_from Up (steps_in grid state (In p) position) ++ values_left grid (after_event grid state (In p)) position) here (own_input state fits (subst (λ (p : ℕ). 0 < left_at state p) (sym here) is.1))
@@ -79,7 +79,7 @@ module _ (grid : Grid) (is_grid : IsGrid grid) (position : ℕ) (within : positi
       event_takes state event fits legal.0
       ∙ ap (λ (rest : List ℤ). first ++ rest) (order_takes then events (event_fitting grid state event is_grid fits legal.0) legal.1)
       ∙ sym (append_assoc first more (values_left grid (after grid then events) position))
-      ∙ ap (λ (front : List ℤ). front ++ values_left grid (after grid then events) position) (sym (taken_append Up (steps_in grid state event position) (steps_of grid then events position)))
+      ∙ ap (λ (prefix : List ℤ). prefix ++ values_left grid (after grid then events) position) (sym (taken_append Up (steps_in grid state event position) (steps_of grid then events position)))
 
   -- ---- outputs
 
@@ -109,13 +109,13 @@ module _ (grid : Grid) (is_grid : IsGrid grid) (position : ℕ) (within : positi
 
   -- what an event brings to an output the tile above it gives
   event_gives : (state : State) (event : Event) → Fits grid state → IsEnabled grid state event → outs (after_event grid state event) position ≡ outs state position ++ given_to Down (steps_in grid state event (bottom_of grid position))
-  event_gives state (Local at) fits is = unchanged state _ (own_gives_none Down (bottom_of grid position) at.number)
+  event_gives state (Local at) fits is = unchanged state _ (local_gives_none Down (bottom_of grid position) at.number)
   event_gives state (Meet at port) fits is =
       let bottom = bottom_of grid position in
       let taker = reached grid at.number port in
       let value = offered state at.number port in
       let none : given_to Down (step_at bottom at.number (Gave port value)) ≡ [] = gives_none Down bottom at.number port value (λ same down. below_bottom is.0 at.number port same down is.1) in
-      unchanged state _ (given_append Down (step_at bottom at.number (Gave port value)) (step_at bottom taker (Took (opposite port) value)) ∙ ap₂ (λ front rest. front ++ rest) none (took_gives_none Down bottom taker (opposite port) value))
+      unchanged state _ (given_append Down (step_at bottom at.number (Gave port value)) (step_at bottom taker (Took (opposite port) value)) ∙ ap₂ (λ prefix rest. prefix ++ rest) none (took_gives_none Down bottom taker (opposite port) value))
   event_gives state (In at) fits is = unchanged state _ (took_gives_none Down (bottom_of grid position) at Up (next_value grid state at))
   event_gives state (Out at) fits is =
       elim (cases_eq position at) [
@@ -134,6 +134,6 @@ module _ (grid : Grid) (is_grid : IsGrid grid) (position : ℕ) (within : positi
       let first = given_to Down (steps_in grid state event bottom) in
       let more = given_to Down (steps_of grid then events bottom) in
       order_gives then events (event_fitting grid state event is_grid fits legal.0) legal.1
-      ∙ ap (λ (front : List ℤ). front ++ more) (event_gives state event fits legal.0)
+      ∙ ap (λ (prefix : List ℤ). prefix ++ more) (event_gives state event fits legal.0)
       ∙ append_assoc (outs state position) first more
       ∙ ap (λ (back : List ℤ). outs state position ++ back) (sym (given_append Down (steps_in grid state event bottom) (steps_of grid then events bottom)))

@@ -6,7 +6,7 @@ use Rattle.tis_base.specs.declared.tiles.TileKind.TheVariants.{Compute, Memory}
 use Rattle.tis_asm.specs.declared.instr.Source.TheVariants as from
 use Rattle.tis_asm.specs.declared.instr.Dest.TheVariants as to
 use Rattle.tis_asm.specs.declared.instr.Instr.TheVariants.{Mov}
-use Rattle.tis_asm.specs.declared.program.Line.{Line}
+use Rattle.tis_asm.specs.declared.program.MarkedInstr.{MarkedInstr}
 use Rattle.tis_asm.specs.Node.{Node, fresh, One, Ready, Writing}
 use Rattle.tis_grid.specs.declared.event.Event.{Event}
 use Rattle.tis_grid.specs.declared.event.Event.TheVariants.{Local, Meet, In, Out, Push, Pop}
@@ -17,7 +17,7 @@ use Rattle.tis_grid.specs.Events.{IsEnabled, STACK_ROOM}
 use Rattle.tis_grid.specs.Orders.{after, IsLegal}
 
 -- a program that passes values down
-abbrev passing : List Line
+abbrev passing : List MarkedInstr
 passing = record { instr = Mov (from.Port Up) (to.Port Down); mark = false } ∷ []
 
 -- the values 5 and 7 come in above column 1, and are wanted below it
@@ -85,7 +85,7 @@ is_sideways enabled = cc enabled.2.offers
 -- ---- a stack
 
 -- tile 0 gives 1 and 2 to the stack at its right, and takes the newest value back
-abbrev stacking : List Line
+abbrev stacking : List MarkedInstr
 stacking =
     record { instr = Mov (from.Number (pos 1)) (to.Port Right); mark = false } ∷
     record { instr = Mov (from.Number (pos 2)) (to.Port Right); mark = false } ∷

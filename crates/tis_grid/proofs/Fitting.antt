@@ -4,7 +4,7 @@ use Rattle.std.specs.List.{range_with_len}
 use Rattle.std.proofs.lemmas.Bool.{cases_eq, cases_lt}
 use Rattle.std.proofs.lemmas.List.{length-set, length-replicate, get_or-set_same, get_or-set_other, get_or_past, set_past}
 use Rattle.std.proofs.lemmas.List.FromFn.{length-map-range_with_len, get_or-map-range_with_len}
-use Rattle.tis_asm.specs.declared.program.Line.{Line}
+use Rattle.tis_asm.specs.declared.program.MarkedInstr.{MarkedInstr}
 use Rattle.tis_asm.specs.Node.{Node, fresh, FitsProgram}
 use Rattle.tis_grid.specs.declared.event.Event.{Event}
 use Rattle.tis_grid.specs.declared.event.Event.TheVariants.{Local, Meet, In, Out, Push, Pop}
@@ -12,7 +12,7 @@ use Rattle.tis_grid.specs.Puzzle.{values_at}
 use Rattle.tis_grid.specs.State.{Grid, IsGrid, State, node_at, stack_at, left_at, start}
 use Rattle.tis_grid.specs.Events.{program_of, IsEnabled, offered, reached, after_event, without_newest, STACK_ROOM}
 use Rattle.tis_grid.specs.Orders.{Fits}
-use Rattle.tis_grid.specs.OwnSteps.{steps_in}
+use Rattle.tis_grid.specs.TileSteps.{steps_in}
 use Rattle.tis_grid.proofs.Runs.{does_fit}
 use Rattle.tis_grid.proofs.Steps.{event_does}
 use Rattle.tis_grid.proofs.Enabled.{reached_is}
@@ -26,7 +26,7 @@ get_or-replicate (suc count) zero value = refl
 get_or-replicate (suc count) (suc index) value = get_or-replicate count index value
 
 -- a fresh node is one of each program
-fresh_fits : (program : List Line) → FitsProgram program fresh
+fresh_fits : (program : List MarkedInstr) → FitsProgram program fresh
 fresh_fits [] = (refl, refl)
 fresh_fits (line ∷ program) = omega arith
 

@@ -4,7 +4,7 @@ use Rattle.tis_grid.specs.declared.event.Event.{Event}
 use Rattle.tis_grid.specs.State.{Grid, IsGrid, State, node_at}
 use Rattle.tis_grid.specs.Events.{program_of, after_event}
 use Rattle.tis_grid.specs.Orders.{Fits, after, IsLegal}
-use Rattle.tis_grid.specs.OwnSteps.{steps_in, steps_of}
+use Rattle.tis_grid.specs.TileSteps.{steps_in, steps_of}
 use Rattle.tis_grid.specs.Laws.{StartFits, EventsKeepFitting, OrdersAreRuns, LinksPassAll, InputsPassAll, OutputsPassAll, StepsCountEvents}
 use Rattle.tis_grid.proofs.Runs.{Does, does_nothing, does_then}
 use Rattle.tis_grid.proofs.Steps.{event_does}

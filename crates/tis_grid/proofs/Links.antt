@@ -11,9 +11,9 @@ use Rattle.tis_grid.specs.declared.event.Event.TheVariants.{Local, Meet, In, Out
 use Rattle.tis_grid.specs.State.{Grid, IsGrid, State, stack_at, next_value}
 use Rattle.tis_grid.specs.Events.{next_tile, bottom_of, IsEnabled, offered, reached, newest, after_event}
 use Rattle.tis_grid.specs.Orders.{Fits, IsLegal}
-use Rattle.tis_grid.specs.OwnSteps.{step_at, steps_in, steps_of}
+use Rattle.tis_grid.specs.TileSteps.{step_at, steps_in, steps_of}
 use Rattle.tis_grid.proofs.Places.{next_back, next_one, not_top, none_below, some_columns, some_rows, compute_within}
-use Rattle.tis_grid.proofs.Ports.{opposite_twice, given_append, taken_append, own_gives_none, own_takes_none, took_gives_none, gave_takes_none, gives_none, takes_none, meeting_passes}
+use Rattle.tis_grid.proofs.Ports.{opposite_twice, given_append, taken_append, local_gives_none, local_takes_none, took_gives_none, gave_takes_none, gives_none, takes_none, meeting_passes}
 use Rattle.tis_grid.proofs.Enabled.{meeting, stack_apart}
 use Rattle.tis_grid.proofs.Fitting.{event_fitting}
 
@@ -24,7 +24,7 @@ module _ (grid : Grid) (is_grid : IsGrid grid) (tile : ℕ) (dir : Dir) (reader 
 
   -- one event passes a value along the link or leaves it alone
   event_passes : (state : State) (event : Event) → IsEnabled grid state event → given_to dir (steps_in grid state event tile) ≡ taken_from (opposite dir) (steps_in grid state event reader)
-  event_passes state (Local at) is = own_gives_none dir tile at.number ∙ sym (own_takes_none (opposite dir) reader at.number)
+  event_passes state (Local at) is = local_gives_none dir tile at.number ∙ sym (local_takes_none (opposite dir) reader at.number)
   event_passes state (Meet at port) is =
       let meets = meeting grid state at port is in
       let taker = reached grid at.number port in
@@ -35,7 +35,7 @@ module _ (grid : Grid) (is_grid : IsGrid grid) (tile : ℕ) (dir : Dir) (reader 
       ∙ ap (λ rest. given_to dir (step_at tile at.number (Gave port value)) ++ rest) (took_gives_none dir tile taker (opposite port) value)
       ∙ append-nil (given_to dir (step_at tile at.number (Gave port value)))
       ∙ meeting_passes dir port tile at.number reader taker value to_reader to_tile
-      ∙ ap (λ front. front ++ taken_from (opposite dir) (step_at reader taker (Took (opposite port) value))) (sym (gave_takes_none (opposite dir) reader at.number port value))
+      ∙ ap (λ prefix. prefix ++ taken_from (opposite dir) (step_at reader taker (Took (opposite port) value))) (sym (gave_takes_none (opposite dir) reader at.number port value))
       ∙ sym (taken_append (opposite dir) (step_at reader at.number (Gave port value)) (step_at reader taker (Took (opposite port) value)))
   event_passes state (In position) is =
       let value = next_value grid state position in
@@ -63,5 +63,5 @@ module _ (grid : Grid) (is_grid : IsGrid grid) (tile : ℕ) (dir : Dir) (reader 
   order_passes state (event ∷ events) fits legal =
       let then = after_event grid state event in
       given_append dir (steps_in grid state event tile) (steps_of grid then events tile)
-      ∙ ap₂ (λ front rest. front ++ rest) (event_passes state event legal.0) (order_passes then events (event_fitting grid state event is_grid fits legal.0) legal.1)
+      ∙ ap₂ (λ prefix rest. prefix ++ rest) (event_passes state event legal.0) (order_passes then events (event_fitting grid state event is_grid fits legal.0) legal.1)
       ∙ sym (taken_append (opposite dir) (steps_in grid state event reader) (steps_of grid then events reader))

@@ -3,7 +3,7 @@ use Rattle.std.proofs.Common.{◌≡◌, ◌≢◌, ℕ, zero, suc, ◌+◌, ◌
 use Rattle.std.proofs.lemmas.Nat.{mod-mul-add, mod_below}
 use Rattle.std.proofs.lemmas.Bool.{cond-true}
 use Rattle.std.proofs.lemmas.Option.{cond_some, slice_get_within}
-use Rattle.tis_base.specs.Tiles.{Board, IsBoard, IsCompute, neighbour_of, opposite}
+use Rattle.tis_base.specs.Tiles.{Tiles, AreTiles, IsCompute, neighbour_of, opposite}
 use Rattle.tis_base.specs.declared.tiles.Dir.{Dir}
 use Rattle.tis_base.specs.declared.tiles.Dir.TheVariants.{Left, Right, Up, Down}
 use Rattle.tis_base.specs.declared.tiles.Shape.{Shape}
@@ -127,16 +127,16 @@ none_below shape position next some is =
     let parts = next_down shape (position + shape.columns * (shape.rows - 1)) next is in
     omega (arith, all_rows shape.columns shape.rows some)
 
--- ---- boards
+-- ---- tiles
 
 -- a board has a column
-pub some_columns : (board : Board) → IsBoard board.shape board.kinds → 0 < board.shape.columns
+pub some_columns : (board : Tiles) → AreTiles board.shape board.kinds → 0 < board.shape.columns
 some_columns board is = omega (arith, is.allowed.0)
 
 -- a board has a row
-pub some_rows : (board : Board) → IsBoard board.shape board.kinds → 0 < board.shape.rows
+pub some_rows : (board : Tiles) → AreTiles board.shape board.kinds → 0 < board.shape.rows
 some_rows board is = omega (arith, is.allowed.1)
 
 -- a compute tile is on the board
-pub compute_within : (board : Board) (tile : ℕ) → IsBoard board.shape board.kinds → IsCompute board tile → tile < board.shape.columns * board.shape.rows
+pub compute_within : (board : Tiles) (tile : ℕ) → AreTiles board.shape board.kinds → IsCompute board tile → tile < board.shape.columns * board.shape.rows
 compute_within board tile is compute = omega (arith, is.filled, slice_get_within board.kinds tile Compute compute)

@@ -5,9 +5,9 @@ use Rattle.tis_base.specs.Tiles.{opposite}
 use Rattle.tis_base.specs.declared.tiles.Dir.{Dir}
 use Rattle.tis_base.specs.declared.tiles.Dir.TheVariants.{Left, Right, Up, Down}
 use Rattle.tis_asm.specs.Node.{is_same_dir}
-use Rattle.tis_asm.specs.PortRuns.{Step, Own, Took, Gave, taken_from, given_to}
+use Rattle.tis_asm.specs.PortRuns.{Step, Local, Took, Gave, taken_from, given_to}
 use Rattle.tis_asm.proofs.Passing.{is_same_dir-true, is_same_dir-self}
-use Rattle.tis_grid.specs.OwnSteps.{step_at}
+use Rattle.tis_grid.specs.TileSteps.{step_at}
 
 -- ---- directions
 
@@ -41,7 +41,7 @@ step_cases P tile other step here elsewhere = cond_both (eqb other tile) (step �
 -- steps and then more steps give what the first give and then what the others give
 pub given_append : (dir : Dir) (steps more : List Step) → given_to dir (steps ++ more) ≡ given_to dir steps ++ given_to dir more
 given_append dir [] more = refl
-given_append dir (Own ∷ steps) more = given_append dir steps more
+given_append dir (Local ∷ steps) more = given_append dir steps more
 given_append dir (Took port value ∷ steps) more = given_append dir steps more
 given_append dir (Gave port value ∷ steps) more =
     cond_both (is_same_dir port dir) (value ∷ []) [] (λ given. given ++ given_to dir (steps ++ more) ≡ given ++ given_to dir steps ++ given_to dir more)
@@ -50,7 +50,7 @@ given_append dir (Gave port value ∷ steps) more =
 -- and so do they take
 pub taken_append : (dir : Dir) (steps more : List Step) → taken_from dir (steps ++ more) ≡ taken_from dir steps ++ taken_from dir more
 taken_append dir [] more = refl
-taken_append dir (Own ∷ steps) more = taken_append dir steps more
+taken_append dir (Local ∷ steps) more = taken_append dir steps more
 taken_append dir (Gave port value ∷ steps) more = taken_append dir steps more
 taken_append dir (Took port value ∷ steps) more =
     cond_both (is_same_dir port dir) (value ∷ []) [] (λ taken. taken ++ taken_from dir (steps ++ more) ≡ taken ++ taken_from dir steps ++ taken_from dir more)
@@ -59,12 +59,12 @@ taken_append dir (Took port value ∷ steps) more =
 -- ---- what one step gives and takes
 
 -- a local step gives nothing
-pub own_gives_none : (dir : Dir) (tile other : ℕ) → given_to dir (step_at tile other Own) ≡ []
-own_gives_none dir tile other = step_cases (λ steps. given_to dir steps ≡ []) tile other Own (λ same. refl) (λ apart. refl)
+pub local_gives_none : (dir : Dir) (tile other : ℕ) → given_to dir (step_at tile other Local) ≡ []
+local_gives_none dir tile other = step_cases (λ steps. given_to dir steps ≡ []) tile other Local (λ same. refl) (λ apart. refl)
 
 -- a local step takes nothing
-pub own_takes_none : (dir : Dir) (tile other : ℕ) → taken_from dir (step_at tile other Own) ≡ []
-own_takes_none dir tile other = step_cases (λ steps. taken_from dir steps ≡ []) tile other Own (λ same. refl) (λ apart. refl)
+pub local_takes_none : (dir : Dir) (tile other : ℕ) → taken_from dir (step_at tile other Local) ≡ []
+local_takes_none dir tile other = step_cases (λ steps. taken_from dir steps ≡ []) tile other Local (λ same. refl) (λ apart. refl)
 
 -- a step that takes gives nothing
 pub took_gives_none : (dir : Dir) (tile other : ℕ) (port : Dir) (value : ℤ) → given_to dir (step_at tile other (Took port value)) ≡ []

@@ -4,8 +4,8 @@ use Rattle.tis_base.specs.Tiles.{IsCompute, neighbour_of, opposite}
 use Rattle.tis_base.specs.declared.tiles.Dir.{Dir}
 use Rattle.tis_base.specs.declared.tiles.Dir.TheVariants.{Up, Down}
 use Rattle.tis_base.specs.declared.tiles.TileKind.TheVariants as kinds
-use Rattle.tis_asm.specs.declared.program.Line.{Line}
-use Rattle.tis_asm.specs.Listing.{program_at}
+use Rattle.tis_asm.specs.declared.program.MarkedInstr.{MarkedInstr}
+use Rattle.tis_asm.specs.Programs.{program_at}
 use Rattle.tis_asm.specs.Node.{Node, can_local, local_step, wants, take_value, offers, gave}
 use Rattle.tis_grid.specs.declared.event.Event.{Event}
 use Rattle.tis_grid.specs.declared.event.Event.TheVariants.{Local, Meet, In, Out, Push, Pop}
@@ -13,7 +13,7 @@ use Rattle.tis_grid.specs.Puzzle.{HasOutput}
 use Rattle.tis_grid.specs.State.{Grid, State, node_at, stack_at, left_at, outs, next_value}
 
 -- the program of a tile
-abbrev pub program_of : Grid → ℕ → List Line
+abbrev pub program_of : Grid → ℕ → List MarkedInstr
 program_of grid tile = program_at grid.programs tile
 
 -- the tile that is next in a direction

@@ -9,7 +9,7 @@ use Rattle.tis_grid.specs.declared.event.Event.{Event}
 use Rattle.tis_grid.specs.State.{Grid, IsGrid, State, node_at, outs, start}
 use Rattle.tis_grid.specs.Events.{program_of, next_tile, bottom_of, IsEnabled, after_event}
 use Rattle.tis_grid.specs.Orders.{Fits, after, IsLegal}
-use Rattle.tis_grid.specs.OwnSteps.{steps_of, values_left}
+use Rattle.tis_grid.specs.TileSteps.{steps_of, values_left}
 
 -- the start is a state of its grid
 abbrev pub StartFits : Type 0

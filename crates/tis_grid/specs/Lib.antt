@@ -2,5 +2,5 @@ pub mod Puzzle
 pub mod State
 pub mod Events
 pub mod Orders
-pub mod OwnSteps
+pub mod TileSteps
 pub mod Laws

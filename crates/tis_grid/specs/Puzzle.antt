@@ -1,7 +1,7 @@
 -- Puzzles as contracts see them: records, lists and numbers.
 use Rattle.std.specs.Prelude.{◌≡◌, ◌≢◌, ℕ, ◌<◌, ℤ, List, [], ◌∷◌, map, All, AllPairs, Any, ◌==◌, if◌then◌else◌}
 use Rattle.tis_base.specs.Saturation.{IsValue}
-use Rattle.tis_base.specs.Tiles.{Board, IsBoard}
+use Rattle.tis_base.specs.Tiles.{Tiles, AreTiles}
 use Rattle.tis_grid.specs.declared.puzzle.OutKind.{OutKind}
 use Rattle.tis_grid.specs.declared.puzzle.InputAt.{InputAt}
 use Rattle.tis_grid.specs.declared.puzzle.OutputAt.{OutputAt}
@@ -19,7 +19,7 @@ pub record Output : Type 0 where
   pub expected : List ℤ
 
 pub record Puzzle : Type 0 where
-  pub tiles : Board
+  pub tiles : Tiles
   pub inputs : List Input
   pub outputs : List Output
 
@@ -35,7 +35,7 @@ puzzle_of p = record { tiles = p.tiles; inputs = map input_of p.inputs.items; ou
 
 -- the positions are below the columns and distinct on each side, and the values are values of the machine
 pub record IsPuzzle (puzzle : Puzzle) : Type 0 where
-  pub board : IsBoard puzzle.tiles.shape puzzle.tiles.kinds
+  pub board : AreTiles puzzle.tiles.shape puzzle.tiles.kinds
   pub inputs_below : All (λ input. input.position < puzzle.tiles.shape.columns) puzzle.inputs
   pub outputs_below : All (λ output. output.position < puzzle.tiles.shape.columns) puzzle.outputs
   pub inputs_distinct : AllPairs (λ a b. a.position ≢ b.position) puzzle.inputs

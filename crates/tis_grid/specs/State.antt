@@ -1,20 +1,20 @@
 -- A grid at one moment.
 use Rattle.std.specs.Prelude.{ℕ, ◌-◌, ℤ, pos, List, [], length, map, replicate, get_or}
 use Rattle.std.specs.List.{range_with_len}
-use Rattle.tis_asm.specs.declared.program.Line.{Line}
-use Rattle.tis_asm.specs.Listing.{IsListing}
+use Rattle.tis_asm.specs.declared.program.MarkedInstr.{MarkedInstr}
+use Rattle.tis_asm.specs.Programs.{ArePrograms}
 use Rattle.tis_asm.specs.Node.{Node, fresh}
 use Rattle.tis_grid.specs.Puzzle.{Puzzle, IsPuzzle, values_at}
 
 -- a puzzle, and one program for each of its tiles
 pub record Grid : Type 0 where
   pub puzzle : Puzzle
-  pub programs : List (List Line)
+  pub programs : List (List MarkedInstr)
 
 -- the puzzle is one, and the programs are for its tiles
 pub record IsGrid (grid : Grid) : Type 0 where
   pub puzzle : IsPuzzle grid.puzzle
-  pub programs : IsListing (record { tiles = grid.puzzle.tiles; programs = grid.programs })
+  pub programs : ArePrograms (record { tiles = grid.puzzle.tiles; programs = grid.programs })
 
 -- the nodes and the stacks by tile, how many values of each input are left and what each output has taken by position
 pub record State : Type 0 where

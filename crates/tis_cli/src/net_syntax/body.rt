@@ -1,7 +1,7 @@
 //! Reading what a process does.
 ghost use Rattle.std.specs.Prelude.{◌≡◌, ◌<◌, [], ◌∷◌, length, IfSome};
 ghost use Rattle.tis_cli.specs.Reading.{Reads, value_line_at, other_operation_at, operation_at, operations_at, put_at, get_at, move_at, body_at};
-ghost use Rattle.tis_cli.specs.Tree.{statement_of, statements_of};
+ghost use Rattle.tis_cli.specs.NetView.{statement_view, statements_view};
 
 use super::name::Name;
 use super::reader::Reader;
@@ -24,7 +24,7 @@ fn read_value_line(reader: &mut Reader) -> Option<Value>
 // Reads the line of a `sub`, a `neg` or a `double`.
 #[tactic(auto, unfolding(crate::specs::Reading::other_operation_at, crate::specs::Reading::either, crate::specs::Reading::followed_by))]
 fn read_other_operation(reader: &mut Reader) -> Option<Statement>
-    ensures { Reads statement_of result reader.new (other_operation_at reader.old) }
+    ensures { Reads statement_view result reader.new (other_operation_at reader.old) }
 {
     if reader.passes(b"sub x ") {
         let number = read_value_line(reader)?;
@@ -40,7 +40,7 @@ fn read_other_operation(reader: &mut Reader) -> Option<Statement>
 // Reads the line of a statement that computes.
 #[tactic(auto, unfolding(crate::specs::Reading::operation_at, crate::specs::Reading::either, crate::specs::Reading::followed_by))]
 fn read_operation(reader: &mut Reader) -> Option<Statement>
-    ensures { Reads statement_of result reader.new (operation_at reader.old) }
+    ensures { Reads statement_view result reader.new (operation_at reader.old) }
 {
     if reader.passes(b"set x ") {
         let number = read_value_line(reader)?;
@@ -55,7 +55,7 @@ fn read_operation(reader: &mut Reader) -> Option<Statement>
 
 // Reads the lines that compute, up to the word of one that sends, onto the line that reads.
 fn read_operations(reader: &mut Reader, first: Statement) -> Option<Block>
-    ensures reads { Reads statements_of result reader.new (operations_at 14 (statement_of first ∷ []) reader.old) }
+    ensures reads { Reads statements_view result reader.new (operations_at 14 (statement_view first ∷ []) reader.old) }
     ensures room { IfSome result (λ body. length body < 15) }
 {
     let mut body = Block::new();
@@ -73,7 +73,7 @@ fn read_operations(reader: &mut Reader, first: Statement) -> Option<Block>
 // Reads what follows the word of a line that sends on this name.
 #[tactic(auto, unfolding(crate::specs::Reading::put_at, crate::specs::Reading::either, crate::specs::Reading::followed_by))]
 fn read_put(reader: &mut Reader, written: &Name) -> Option<Statement>
-    ensures { Reads statement_of result reader.new (put_at written.now reader.old) }
+    ensures { Reads statement_view result reader.new (put_at written.now reader.old) }
 {
     let name = reader.this_name(written)?;
     reader.text(b" ")?;
@@ -88,7 +88,7 @@ fn read_put(reader: &mut Reader, written: &Name) -> Option<Statement>
 // other.
 #[tactic(auto, unfolding(crate::specs::Reading::get_at, crate::specs::Reading::followed_by))]
 fn read_get(reader: &mut Reader, read: &Name, written: &Name) -> Option<Block>
-    ensures { Reads statements_of result reader.new (get_at read.now written.now reader.old) }
+    ensures { Reads statements_view result reader.new (get_at read.now written.now reader.old) }
 {
     let name = reader.this_name(read)?;
     reader.text(b" x\n")?;
@@ -101,7 +101,7 @@ fn read_get(reader: &mut Reader, read: &Name, written: &Name) -> Option<Block>
 // Reads what follows the word of a line that moves from one name to the other.
 #[tactic(auto, unfolding(crate::specs::Reading::move_at, crate::specs::Reading::followed_by))]
 fn read_move(reader: &mut Reader, read: &Name, written: &Name) -> Option<Block>
-    ensures { Reads statements_of result reader.new (move_at read.now written.now reader.old) }
+    ensures { Reads statements_view result reader.new (move_at read.now written.now reader.old) }
 {
     let from = reader.this_name(read)?;
     reader.text(b" ")?;
@@ -115,7 +115,7 @@ fn read_move(reader: &mut Reader, read: &Name, written: &Name) -> Option<Block>
 /// Reads the body of a process that reads one name and writes the other.
 #[tactic(auto, unfolding(crate::specs::Reading::body_at, crate::specs::Reading::either, crate::specs::Reading::followed_by))]
 pub fn read_body(reader: &mut Reader, read: &Name, written: &Name) -> Option<Block>
-    ensures { Reads statements_of result reader.new (body_at read.now written.now reader.old) }
+    ensures { Reads statements_view result reader.new (body_at read.now written.now reader.old) }
 {
     if reader.passes(b"move ") {
         return read_move(reader, read, written);

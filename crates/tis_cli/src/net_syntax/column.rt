@@ -1,9 +1,9 @@
 //! The networks that are taken so far.
 ghost use Rattle.std.specs.Prelude.{◌≡◌, ◌≢◌, ◌<◌, ◌+◌, ◌*◌, ◌++◌, [], ◌∷◌, length, map, Some, None, option_map, IfSome, IfOk, Err};
 ghost use Rattle.tis_cli.specs.Net.{Net as SomeNet};
-ghost use Rattle.tis_cli.specs.Column.{NetOf, channel_of, column_net, plain_board, tiles_below};
+ghost use Rattle.tis_cli.specs.Column.{NetOf, channel_of, column_net, plain_tiles, tiles_below};
 ghost use Rattle.tis_cli.specs.Reading.{Reads, input_at, passed_at, output_at, channel_at, channels_at, process_at, processes_at, column_at, all_differ, links_differ as links_all_differ, is_among as is_one_of, process_names};
-ghost use Rattle.tis_cli.specs.Tree.{net_of, port_of, line_of, channel_name, process_of};
+ghost use Rattle.tis_cli.specs.NetView.{net_view, port_view, channel_view, channel_name, process_view};
 
 use super::body::read_body;
 use super::name::Name;
@@ -79,7 +79,7 @@ fn read_channel(reader: &mut Reader) -> Option<Name>
 // Reads the process that stands on this tile, and reads one name and writes the other.
 #[tactic(auto, unfolding(crate::specs::Reading::process_at, crate::specs::Reading::followed_by))]
 fn read_process(reader: &mut Reader, tile: u8, read: &Name, written: &Name) -> Option<ProcessText>
-    ensures { Reads process_of result reader.new (process_at tile read.now written.now reader.old) }
+    ensures { Reads process_view result reader.new (process_at tile read.now written.now reader.old) }
 {
     reader.text(b"process ")?;
     let name = reader.name()?;
@@ -103,7 +103,7 @@ fn read_channels(
 ) -> Result<Vec<ChannelLine>, NetError>
     ensures read { IfOk result (λ channels. channels_at count [] reader.old ≡ Some (map channel_name channels.items, reader.new)) }
     ensures counted { IfOk result (λ channels. length channels.items ≡ count) }
-    ensures direct { IfOk result (λ channels. map line_of channels.items ≡ map channel_of (map channel_name channels.items)) }
+    ensures direct { IfOk result (λ channels. map channel_view channels.items ≡ map channel_of (map channel_name channels.items)) }
     ensures refused { result ≡ Err NetError.NotThisForm → channels_at count [] reader.old ≡ None }
 {
     let mut channels = Vec::new(alloc);
@@ -130,7 +130,7 @@ fn read_processes(
     output: &Name,
 ) -> Result<Vec<ProcessText>, NetError>
     requires { position + 4 * length channels.now < 16 }
-    ensures read { IfOk result (λ processes. processes_at position input.now (map channel_name channels.now ++ output.now ∷ []) [] reader.old ≡ Some (map process_of processes.items, reader.new)) }
+    ensures read { IfOk result (λ processes. processes_at position input.now (map channel_name channels.now ++ output.now ∷ []) [] reader.old ≡ Some (map process_view processes.items, reader.new)) }
     ensures counted { IfOk result (λ processes. length processes.items ≡ length channels.now + 1) }
     ensures refused { result ≡ Err NetError.NotThisForm → processes_at position input.now (map channel_name channels.now ++ output.now ∷ []) [] reader.old ≡ None }
 {
@@ -164,7 +164,7 @@ fn is_among(name: &Name, channels: &[ChannelLine]) -> bool
 
 // Whether a process has this name.
 fn is_name_of(name: &Name, processes: &[ProcessText]) -> bool
-    ensures { result ≡ is_one_of name.now (process_names (map process_of processes.now)) }
+    ensures { result ≡ is_one_of name.now (process_names (map process_view processes.now)) }
 {
     match processes {
         [] => false,
@@ -184,7 +184,7 @@ fn channels_differ(channels: &[ChannelLine]) -> bool
 
 // Whether the names of the processes differ from each other.
 fn processes_differ(processes: &[ProcessText]) -> bool
-    ensures { result ≡ all_differ (process_names (map process_of processes.now)) }
+    ensures { result ≡ all_differ (process_names (map process_view processes.now)) }
 {
     match processes {
         [] => true,
@@ -204,7 +204,7 @@ fn links_differ(input: &Name, channels: &[ChannelLine], output: &Name) -> bool
 
 // Four columns and three rows of compute tiles.
 fn plain_tiles() -> Tiles
-    ensures { result ≡ plain_board }
+    ensures { result ≡ plain_tiles }
 {
     let shape = Shape {
         columns: 4,
@@ -231,7 +231,7 @@ fn path_below(position: u8, channels: u8) -> Path
 
 // The one input or output at a position.
 fn one_port(alloc: Global, name: Name, position: u8, path: Path) -> Result<Vec<PortLine>, NetError>
-    ensures port { IfOk result (λ ports. map port_of ports.items ≡ record { name = name; position = position; via = Some path } ∷ []) }
+    ensures port { IfOk result (λ ports. map port_view ports.items ≡ record { name = name; position = position; via = Some path } ∷ []) }
     ensures refused { result ≢ Err NetError.NotThisForm }
 {
     let mut ports = Vec::new(alloc);
@@ -246,7 +246,7 @@ fn one_port(alloc: Global, name: Name, position: u8, path: Path) -> Result<Vec<P
 // The network that is read of all of the text.
 #[tactic(auto, unfolding(crate::specs::Reading::column_at, crate::specs::Reading::whole, crate::specs::Reading::followed_by))]
 fn read_column(alloc: Global, text: &[u8]) -> Result<Net, NetError>
-    ensures read { IfOk result (λ net. option_map column_net (column_at text.now) ≡ Some (net_of net)) }
+    ensures read { IfOk result (λ net. option_map column_net (column_at text.now) ≡ Some (net_view net)) }
     ensures refused { result ≡ Err NetError.NotThisForm → column_at text.now ≡ None }
 {
     let mut reader = Reader::new(text);
@@ -275,7 +275,7 @@ fn read_column(alloc: Global, text: &[u8]) -> Result<Net, NetError>
 
 /// The network that a text is. Anything but a text of the form that is taken so far is refused.
 pub fn read_net(alloc: Global, text: &[u8]) -> Result<Net, NetError>
-    ensures found { IfOk result (λ net. NetOf text.now (net_of net)) }
+    ensures found { IfOk result (λ net. NetOf text.now (net_view net)) }
     ensures refused { result ≡ Err NetError.NotThisForm → (net : SomeNet) → NetOf text.now net → ⊥ }
 {
     read_column(alloc, text)

@@ -1,7 +1,7 @@
 use Rattle.std.proofs.Common.{rules, ◌≡◌, ◌∙◌, Err, ap}
 use Rattle.tis_cli.specs.Commands.{net_status}
 use Rattle.tis_cli.specs.Saves.{save_text}
-use Rattle.tis_cli.specs.Tree.{net_of}
+use Rattle.tis_cli.specs.NetView.{net_view}
 use Rattle.tis_cli.proofs.Explained.{unread_explained, saved_explained}
 use Rattle.tis_cli.proofs.run.compile.Goals as goal
 
@@ -15,6 +15,6 @@ returns-in_err-tree-clause-explains g c =
 pub returns-clause-explains : goal.returns-clause-explains
 returns-clause-explains g c =
     saved_explained (g.S.Store.texts c.args.store.now) (g.S.Store.texts c.fetch.new.self) (g.S.Store.texts c.keep.new.self) c.args.net.now c.args.save.now
-    c.in_ok-text.text.items c.deref.result.now c.deref-2.result.now (net_of c.in_ok-tree.tree)
+    c.in_ok-text.text.items c.deref.result.now c.deref-2.result.now (net_view c.in_ok-tree.tree)
     c.in_ok-text.ensures.ok c.deref.ensures.value c.in_ok-tree.ensures.found
     (c.deref-2.ensures.value ∙ c.in_ok-bytes.ensures ∙ ap save_text c.in_ok-programs.ensures) c.in_ok-text.ensures.texts_stay c.in_ok-keep.ensures.ok

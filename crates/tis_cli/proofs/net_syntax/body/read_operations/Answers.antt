@@ -2,7 +2,7 @@ use Rattle.std.proofs.Common.{◌≡◌, ◌∷◌, [], ◌++◌, ◌+◌, ◌-�
 use Rattle.std.proofs.lemmas.List.{map_push, length_push}
 use Rattle.tis_cli.specs.Net.{Statement}
 use Rattle.tis_cli.specs.Reading.{operation_at, operations_at}
-use Rattle.tis_cli.specs.Tree.{statement_of, statements_of}
+use Rattle.tis_cli.specs.NetView.{statement_view, statements_view}
 use Rattle.tis_cli.proofs.Steps.{operations_stop, operations_fail, operations_more, operations_end}
 use Rattle.tis_cli.proofs.net_syntax.body.read_operations.Goals as goal
 
@@ -23,7 +23,7 @@ loop-line-preserved c =
       same =
           c.loop-line.invariant.same
           ∙ operations_more _ _ _ _ _ c.loop-line-test.true c.if-passes.ensures.elsewhere (ap operation_at (sym c.if-passes.ensures.stays) ∙ c.in_ok-operation.ensures)
-          ∙ ap (λ (body : List Statement). operations_at (14 - (c.loop-line._line + 1)) body c.read_operation.new.reader) (sym (ap statements_of pushed ∙ map_push statement_of _ _));
+          ∙ ap (λ (body : List Statement). operations_at (14 - (c.loop-line._line + 1)) body c.read_operation.new.reader) (sym (ap statements_view pushed ∙ map_push statement_view _ _));
     }
 
 pub returns-clause-reads : goal.returns-clause-reads

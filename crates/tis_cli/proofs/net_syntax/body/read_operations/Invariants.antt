@@ -1,11 +1,11 @@
 use Rattle.std.proofs.Common.{◌≡◌, [], ◌∷◌, ◌+◌, ◌-◌, length}
 use Rattle.tis_cli.specs.Reading.{operations_at}
-use Rattle.tis_cli.specs.Tree.{statement_of, statements_of}
+use Rattle.tis_cli.specs.NetView.{statement_view, statements_view}
 use Rattle.tis_cli.proofs.net_syntax.body.read_operations.Given as goal
 
 abbrev pub invariant-loop-line : goal.invariant-loop-line
 invariant-loop-line l =
     record {
       count : length l.body ≡ l._line + 1;
-      same : operations_at 14 (statement_of l.fn.first ∷ []) l.initial.reader ≡ operations_at (14 - l._line) (statements_of l.body) l.reader;
+      same : operations_at 14 (statement_view l.fn.first ∷ []) l.initial.reader ≡ operations_at (14 - l._line) (statements_view l.body) l.reader;
     }

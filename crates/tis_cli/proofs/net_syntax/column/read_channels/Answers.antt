@@ -2,7 +2,7 @@ use Rattle.std.proofs.Common.{◌+◌, ◌-◌, length, map, List, Some, sym, ap
 use Rattle.std.proofs.lemmas.List.{map_push, length_push}
 use Rattle.tis_cli.specs.Net.{Name}
 use Rattle.tis_cli.specs.Reading.{channels_at}
-use Rattle.tis_cli.specs.Tree.{channel_name}
+use Rattle.tis_cli.specs.NetView.{channel_name}
 use Rattle.tis_cli.proofs.Steps.{channels_fail, channels_more, channels_end, direct_push}
 use Rattle.tis_cli.proofs.net_syntax.column.read_channels.Goals as goal
 

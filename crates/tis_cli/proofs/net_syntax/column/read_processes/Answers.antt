@@ -2,7 +2,7 @@ use Rattle.std.proofs.Common.{◌∷◌, [], ◌++◌, ◌+◌, length, map, dro
 use Rattle.std.proofs.lemmas.List.{map_push, length_push}
 use Rattle.tis_cli.specs.Net.{Process}
 use Rattle.tis_cli.specs.Reading.{processes_at}
-use Rattle.tis_cli.specs.Tree.{channel_name, process_of}
+use Rattle.tis_cli.specs.NetView.{channel_name, process_view}
 use Rattle.tis_cli.proofs.Steps.{processes_fail, processes_more, last_fails, last_more}
 use Rattle.tis_cli.proofs.net_syntax.column.read_processes.Goals as goal
 
@@ -19,7 +19,7 @@ loop-channel-preserved c =
           c.loop-channel.invariant.same
           ∙ processes_more c.args.channels.now c.loop-channel.channel-index c.channel-item.result c.loop-channel.tile c.loop-channel.read.now _ _ _ _ _ c.loop-channel-test.true c.channel-item.is c.in-Some.ensures
           ∙ ap (λ (processes : List Process). processes_at (c.loop-channel.tile + 4) c.channel-item.result.name (map channel_name (drop (c.loop-channel.channel-index + 1) c.args.channels.now) ++ c.args.output.now ∷ []) processes c.read_process.new.reader)
-          (sym (ap (map process_of) c.in_ok-push.ensures.items ∙ map_push process_of _ _));
+          (sym (ap (map process_view) c.in_ok-push.ensures.items ∙ map_push process_view _ _));
     }
 
 pub returns-in_default-read_process-clause-refused : goal.returns-in_default-read_process-clause-refused
@@ -29,4 +29,4 @@ returns-in_default-read_process-clause-refused c =
 pub returns-clause-read : goal.returns-clause-read
 returns-clause-read c =
     c.loop-channel.invariant.same ∙ last_more c.args.channels.now c.loop-channel.channel-index c.loop-channel.tile c.loop-channel.read.now _ _ _ _ _ c.loop-channel-test.false c.in-Some-read_process.ensures
-    ∙ ap (λ (processes : List Process). Some (processes, c.read_process-2.new.reader)) (sym (ap (map process_of) c.in_ok-push-2.ensures.items ∙ map_push process_of _ _))
+    ∙ ap (λ (processes : List Process). Some (processes, c.read_process-2.new.reader)) (sym (ap (map process_view) c.in_ok-push-2.ensures.items ∙ map_push process_view _ _))

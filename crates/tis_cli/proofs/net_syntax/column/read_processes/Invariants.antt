@@ -1,6 +1,6 @@
 use Rattle.std.proofs.Common.{◌≡◌, ◌+◌, ◌*◌, ◌++◌, ◌∷◌, [], length, drop, map}
 use Rattle.tis_cli.specs.Reading.{processes_at}
-use Rattle.tis_cli.specs.Tree.{channel_name, process_of}
+use Rattle.tis_cli.specs.NetView.{channel_name, process_view}
 use Rattle.tis_cli.proofs.net_syntax.column.read_processes.Given as goal
 
 abbrev pub invariant-loop-channel : goal.invariant-loop-channel
@@ -10,5 +10,5 @@ invariant-loop-channel l =
       count : length l.processes.items ≡ l.channel-index;
       same :
           processes_at l.position l.input (map channel_name l.channels ++ l.output ∷ []) [] l.initial.reader
-          ≡ processes_at l.tile l.read (map channel_name (drop l.channel-index l.channels) ++ l.output ∷ []) (map process_of l.processes.items) l.reader;
+          ≡ processes_at l.tile l.read (map channel_name (drop l.channel-index l.channels) ++ l.output ∷ []) (map process_view l.processes.items) l.reader;
     }

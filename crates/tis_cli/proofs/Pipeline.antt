@@ -10,7 +10,7 @@ use Rattle.tis_base.specs.Prefix.{IsPrefixOf}
 use Rattle.tis_base.specs.Tiles.{IsCompute}
 use Rattle.tis_base.specs.declared.tiles.Dir.TheVariants.{Left, Right, Up, Down}
 use Rattle.tis_base.proofs.Prefixes.{prefix_refl, prefix_trans, prefix_length}
-use Rattle.tis_asm.specs.declared.program.Line.{Line}
+use Rattle.tis_asm.specs.declared.program.MarkedInstr.{MarkedInstr}
 use Rattle.tis_asm.specs.Node.{Node, fresh, wants}
 use Rattle.tis_asm.specs.PortRuns.{Step, IsPortRun, after_steps, taken_from, given_to}
 use Rattle.tis_asm.proofs.Passing.{empty_programs_rest}
@@ -21,9 +21,9 @@ use Rattle.tis_grid.specs.Puzzle.{HasOutput, values_at}
 use Rattle.tis_grid.specs.State.{Grid, IsGrid, State, node_at, left_at, outs, start}
 use Rattle.tis_grid.specs.Events.{program_of, next_tile, bottom_of, Wants, Offers, after_event}
 use Rattle.tis_grid.specs.Orders.{Fits, after, IsLegal, IsAtRest}
-use Rattle.tis_grid.specs.OwnSteps.{steps_of, values_left}
+use Rattle.tis_grid.specs.TileSteps.{steps_of, values_left}
 use Rattle.tis_grid.specs.Laws.{IsOrder}
-use Rattle.tis_cli.specs.Stage.{Next, GoesOn, WaitsAbove, GivesBelow, WorksAs, Stage, made_by, most_steps, StandsOn, below, StandDown, IsAmong, IsStack, FollowsStack}
+use Rattle.tis_cli.specs.Stage.{Next, GoesOn, WaitsAbove, GivesBelow, WorksAs, Stage, made_by, most_steps, StandsOn, below, StandDown, IsAmong, IsPipeline, FollowsPipeline}
 use Rattle.tis_cli.proofs.GridLaws.{GridLaws}
 
 -- ---- lists
@@ -37,22 +37,22 @@ get_or-replicate_self (suc count) (suc index) x = get_or-replicate_self count in
 -- ---- what the stages make
 
 -- more values change nothing of what was made before
-made_by-front : (stages : List Stage) (front whole : List ℤ) → IsPrefixOf front whole → IsPrefixOf (made_by stages front) (made_by stages whole)
-made_by-front [] front whole is_front = is_front
-made_by-front (stage ∷ stages) front whole is_front = made_by-front stages (stage.makes front) (stage.makes whole) (stage.is_stage.keeps_fronts front whole is_front)
+made_by-prefix : (stages : List Stage) (prefix whole : List ℤ) → IsPrefixOf prefix whole → IsPrefixOf (made_by stages prefix) (made_by stages whole)
+made_by-prefix [] prefix whole is_prefix = is_prefix
+made_by-prefix (stage ∷ stages) prefix whole is_prefix = made_by-prefix stages (stage.makes prefix) (stage.makes whole) (stage.is_stage.keeps_prefixes prefix whole is_prefix)
 
 -- ---- one node at work
 
 -- a run of a stage's program from the start
-run_works : (program : List Line) (stage : Stage) (first last : Node) (steps : List Step) → program ≡ stage.program → first ≡ fresh → IsPortRun program first steps → after_steps program first steps ≡ last → WorksAs stage.program stage.makes stage.most_local steps last
+run_works : (program : List MarkedInstr) (stage : Stage) (first last : Node) (steps : List Step) → program ≡ stage.program → first ≡ fresh → IsPortRun program first steps → after_steps program first steps ≡ last → WorksAs stage.program stage.makes stage.most_local steps last
 run_works program stage first last steps is_program is_fresh run leads =
-    let same_run = subst₂ (λ (p : List Line) (n : Node). IsPortRun p n steps) is_program is_fresh run in
-    let same_end = subst₂ (λ (p : List Line) (n : Node). after_steps p n steps ≡ last) is_program is_fresh leads in
+    let same_run = subst₂ (λ (p : List MarkedInstr) (n : Node). IsPortRun p n steps) is_program is_fresh run in
+    let same_end = subst₂ (λ (p : List MarkedInstr) (n : Node). after_steps p n steps ≡ last) is_program is_fresh leads in
     subst (λ (n : Node). WorksAs stage.program stage.makes stage.most_local steps n) same_end (stage.is_stage.works steps same_run)
 
 -- a run of the empty program from the start
-run_rests : (program : List Line) (first : Node) (steps : List Step) → program ≡ [] → first ≡ fresh → IsPortRun program first steps → steps ≡ []
-run_rests program first steps is_empty is_fresh run = empty_programs_rest steps (subst₂ (λ (p : List Line) (n : Node). IsPortRun p n steps) is_empty is_fresh run)
+run_rests : (program : List MarkedInstr) (first : Node) (steps : List Step) → program ≡ [] → first ≡ fresh → IsPortRun program first steps → steps ≡ []
+run_rests program first steps is_empty is_fresh run = empty_programs_rest steps (subst₂ (λ (p : List MarkedInstr) (n : Node). IsPortRun p n steps) is_empty is_fresh run)
 
 -- how many steps a stage made at most, where at most so many values came in
 steps_of_stage : (stage : Stage) (steps : List Step) (node : Node) (count : ℕ) → WorksAs stage.program stage.makes stage.most_local steps node → length (taken_from Up steps) ≤ count → length steps ≤ stage.most_local count + count + count
@@ -63,7 +63,7 @@ steps_of_stage stage steps node count works few =
     let none_left : length (given_to Left steps) ≡ 0 = ap length (works.gives_below Left (λ e. absurd cc)) in
     let none_right : length (given_to Right steps) ≡ 0 = ap length (works.gives_below Right (λ e. absurd cc)) in
     let none_up : length (given_to Up steps) ≡ 0 = ap length (works.gives_below Up (λ e. absurd cc)) in
-    let given : length (given_to Down steps) ≤ length (stage.makes (taken_from Up steps)) = prefix_length _ _ works.front in
+    let given : length (given_to Down steps) ≤ length (stage.makes (taken_from Up steps)) = prefix_length _ _ works.prefix in
     let made = stage.is_stage.no_longer (taken_from Up steps) in
     let local = stage.is_stage.grows (length (taken_from Up steps)) count few in
     omega (arith, steps_add_up steps, works.local)
@@ -89,7 +89,7 @@ head_stands grid position tile stage [] stand = stand.0
 head_stands grid position tile stage (next ∷ stages) stand = stand.0
 
 -- a stage with nothing left to do, at rest, waits for a value from above
-waits_above : (grid : Grid) (state : State) (tile : ℕ) (program : List Line) → IsCompute grid.puzzle.tiles tile → program_of grid tile ≡ program → Next program (node_at state tile) → IsAtRest grid state → (Offers grid state tile Down → ⊥) → Wants grid state tile Up
+waits_above : (grid : Grid) (state : State) (tile : ℕ) (program : List MarkedInstr) → IsCompute grid.puzzle.tiles tile → program_of grid tile ≡ program → Next program (node_at state tile) → IsAtRest grid state → (Offers grid state tile Down → ⊥) → Wants grid state tile Up
 waits_above grid state tile program compute same (GoesOn can) rest never_gives = absurd (rest (Local (record { number = tile })) (compute, rw same can))
 waits_above grid state tile program compute same (WaitsAbove waits) rest never_gives = record { compute = compute; wants = rw same waits }
 waits_above grid state tile program compute same (GivesBelow value gives) rest never_gives = absurd (never_gives (record { compute = compute; value = value; offers = gives }))
@@ -126,16 +126,16 @@ module _ (laws : GridLaws) (grid : Grid) (events : List Event) (is_grid : IsGrid
   passed_down : (tile : ℕ) (stage next : Stage) → StandsOn grid tile stage → next_tile grid tile Down ≡ Some (below grid tile) → StandsOn grid (below grid tile) next → given_to Down (steps_of grid (start grid) events tile) ≡ taken_from Up (steps_of grid (start grid) events (below grid tile))
   passed_down tile stage next stands is_next stands_below = laws.links_pass_all grid (start grid) events order tile Down (below grid tile) is_next stands.compute stands_below.compute
 
-  -- the output is a front of what the stages make of what the first of them took
-  output_front : (position tile : ℕ) (stage : Stage) (stages : List Stage) → position < grid.puzzle.tiles.shape.columns → StandDown grid position tile stage stages →
+  -- the output is a prefix of what the stages make of what the first of them took
+  output_prefix : (position tile : ℕ) (stage : Stage) (stages : List Stage) → position < grid.puzzle.tiles.shape.columns → StandDown grid position tile stage stages →
       IsPrefixOf (outs (after grid (start grid) events) position) (made_by (stage ∷ stages) (taken_from Up (steps_of grid (start grid) events tile)))
-  output_front position tile stage [] inside stand =
-      prefix_trans _ _ _ (prefix_refl _ _ (last_output position tile inside stand.1)) (tile_works tile stage stand.0).front
-  output_front position tile stage (next ∷ stages) inside stand =
-      let later = output_front position (below grid tile) next stages inside stand.2 in
+  output_prefix position tile stage [] inside stand =
+      prefix_trans _ _ _ (prefix_refl _ _ (last_output position tile inside stand.1)) (tile_works tile stage stand.0).prefix
+  output_prefix position tile stage (next ∷ stages) inside stand =
+      let later = output_prefix position (below grid tile) next stages inside stand.2 in
       let link = passed_down tile stage next stand.0 stand.1 (head_stands grid position (below grid tile) next stages stand.2) in
-      let front = subst (λ (given : List ℤ). IsPrefixOf given (stage.makes (taken_from Up (steps_of grid (start grid) events tile)))) link (tile_works tile stage stand.0).front in
-      prefix_trans _ _ _ later (made_by-front (next ∷ stages) _ _ front)
+      let prefix = subst (λ (given : List ℤ). IsPrefixOf given (stage.makes (taken_from Up (steps_of grid (start grid) events tile)))) link (tile_works tile stage stand.0).prefix in
+      prefix_trans _ _ _ later (made_by-prefix (next ∷ stages) _ _ prefix)
 
   -- the first stage waits for a value from above, and the output has all that the stages make of what it took
   record Settled (position tile : ℕ) (stages : List Stage) : Type 0 where
@@ -144,7 +144,7 @@ module _ (laws : GridLaws) (grid : Grid) (events : List Event) (is_grid : IsGrid
 
   -- a stage that waits has given all that it makes of what it took
   gave_all : (tile : ℕ) (stage : Stage) → StandsOn grid tile stage → Wants grid (after grid (start grid) events) tile Up → given_to Down (steps_of grid (start grid) events tile) ≡ stage.makes (taken_from Up (steps_of grid (start grid) events tile))
-  gave_all tile stage stands waits = (tile_works tile stage stands).whole (subst (λ (p : List Line). IsTrue (wants p (node_at (after grid (start grid) events) tile) Up)) stands.program waits.wants)
+  gave_all tile stage stands waits = (tile_works tile stage stands).whole (subst (λ (p : List MarkedInstr). IsTrue (wants p (node_at (after grid (start grid) events) tile) Up)) stands.program waits.wants)
 
   -- at rest each stage waits, from the output upwards
   settled : (position tile : ℕ) (stage : Stage) (stages : List Stage) → position < grid.puzzle.tiles.shape.columns → HasOutput grid.puzzle.outputs position → StandDown grid position tile stage stages →
@@ -160,9 +160,9 @@ module _ (laws : GridLaws) (grid : Grid) (events : List Event) (is_grid : IsGrid
       let link = passed_down tile stage next stand.0 stand.1 (head_stands grid position (below grid tile) next stages stand.2) in
       record { waits = waits; whole = later.whole ∙ ap (made_by (next ∷ stages)) (sym link ∙ gave_all tile stage stand.0 waits) }
 
-  -- what the first stage took is a front of the input
-  took_front : (position : ℕ) → position < grid.puzzle.tiles.shape.columns → IsPrefixOf (taken_from Up (steps_of grid (start grid) events position)) (values_at grid.puzzle.inputs position)
-  took_front position inside = (values_left grid (after grid (start grid) events) position, sym (laws.inputs_pass_all grid (start grid) events order position inside) ∙ left-start grid position inside)
+  -- what the first stage took is a prefix of the input
+  took_prefix : (position : ℕ) → position < grid.puzzle.tiles.shape.columns → IsPrefixOf (taken_from Up (steps_of grid (start grid) events position)) (values_at grid.puzzle.inputs position)
+  took_prefix position inside = (values_left grid (after grid (start grid) events) position, sym (laws.inputs_pass_all grid (start grid) events order position inside) ∙ left-start grid position inside)
 
   -- at rest, where the first stage waits, it took the whole input
   took_all : (position : ℕ) → position < grid.puzzle.tiles.shape.columns → IsAtRest grid (after grid (start grid) events) → Wants grid (after grid (start grid) events) position Up → taken_from Up (steps_of grid (start grid) events position) ≡ values_at grid.puzzle.inputs position
@@ -187,7 +187,7 @@ module _ (laws : GridLaws) (grid : Grid) (events : List Event) (is_grid : IsGrid
   few_steps position tile first stage (next ∷ stages) count stand among few =
       let here = steps_of_stage stage (steps_of grid (start grid) events first) _ count (tile_works first stage stand.0) few in
       let link = passed_down first stage next stand.0 stand.1 (head_stands grid position (below grid first) next stages stand.2) in
-      let given = prefix_length _ _ (tile_works first stage stand.0).front in
+      let given = prefix_length _ _ (tile_works first stage stand.0).prefix in
       let made = stage.is_stage.no_longer (taken_from Up (steps_of grid (start grid) events first)) in
       let fewer : length (taken_from Up (steps_of grid (start grid) events (below grid first))) ≤ count = omega (arith, ap length link) in
       elim among [
@@ -202,7 +202,7 @@ module _ (laws : GridLaws) (grid : Grid) (events : List Event) (is_grid : IsGrid
       get_or_past (after grid (start grid) events).outs position [] (omega (arith, fits.outs))
 
   -- other outputs have no value
-  others_empty : (position : ℕ) (stage : Stage) (stages : List Stage) → IsStack grid position stage stages → (other : ℕ) → other ≢ position → outs (after grid (start grid) events) other ≡ []
+  others_empty : (position : ℕ) (stage : Stage) (stages : List Stage) → IsPipeline grid position stage stages → (other : ℕ) → other ≢ position → outs (after grid (start grid) events) other ≡ []
   others_empty position stage stages stack other apart =
       elim (cases_lt other grid.puzzle.tiles.shape.columns) [
         | inl inside ↦ output_is other inside ∙ ap (given_to Down) (tile_rests (bottom_of grid other) (stack.other_bottoms other inside apart))
@@ -210,16 +210,16 @@ module _ (laws : GridLaws) (grid : Grid) (events : List Event) (is_grid : IsGrid
       ]
 
   -- no tile makes more steps than all stages at most
-  each_tile : (position : ℕ) (stage : Stage) (stages : List Stage) → IsStack grid position stage stages → (tile : ℕ) →
+  each_tile : (position : ℕ) (stage : Stage) (stages : List Stage) → IsPipeline grid position stage stages → (tile : ℕ) →
       length (steps_of grid (start grid) events tile) ≤ most_steps (stage ∷ stages) (length (values_at grid.puzzle.inputs position))
   each_tile position stage stages stack tile =
       elim (stack.elsewhere tile) [
-        | inl among ↦ few_steps position tile position stage stages _ stack.stand among (prefix_length _ _ (took_front position stack.inside))
+        | inl among ↦ few_steps position tile position stage stages _ stack.stand among (prefix_length _ _ (took_prefix position stack.inside))
         | inr is_empty ↦ let none : length (steps_of grid (start grid) events tile) ≡ 0 = ap length (tile_rests tile is_empty) in omega arith
       ]
 
   -- the number of events is bounded
-  few_events : (position : ℕ) (stage : Stage) (stages : List Stage) → IsStack grid position stage stages →
+  few_events : (position : ℕ) (stage : Stage) (stages : List Stage) → IsPipeline grid position stage stages →
       length events ≤ length grid.puzzle.tiles.kinds * most_steps (stage ∷ stages) (length (values_at grid.puzzle.inputs position))
   few_events position stage stages stack =
       let most = most_steps (stage ∷ stages) (length (values_at grid.puzzle.inputs position)) in
@@ -229,10 +229,10 @@ module _ (laws : GridLaws) (grid : Grid) (events : List Event) (is_grid : IsGrid
       subst (λ (count : ℕ). length events ≤ count * most) all (le_trans (laws.steps_count_events grid (start grid) events order) sum)
 
   -- a legal order from the start follows the stages
-  pub follows_stack : (position : ℕ) (stage : Stage) (stages : List Stage) → IsStack grid position stage stages → FollowsStack grid position (stage ∷ stages) events
+  pub follows_stack : (position : ℕ) (stage : Stage) (stages : List Stage) → IsPipeline grid position stage stages → FollowsPipeline grid position (stage ∷ stages) events
   follows_stack position stage stages stack =
       record {
-        front = prefix_trans _ _ _ (output_front position position stage stages stack.inside stack.stand) (made_by-front (stage ∷ stages) _ _ (took_front position stack.inside));
+        prefix = prefix_trans _ _ _ (output_prefix position position stage stages stack.inside stack.stand) (made_by-prefix (stage ∷ stages) _ _ (took_prefix position stack.inside));
         others = others_empty position stage stages stack;
         bounded = few_events position stage stages stack;
         whole = λ has rest.

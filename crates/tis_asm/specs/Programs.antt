@@ -1,13 +1,13 @@
 -- Programs, and one for each tile.
 use Rattle.std.specs.Prelude.{◌≡◌, ◌≢◌, ℕ, ◌≤◌, List, [], ◌∷◌, length, Some, slice_get, get_or}
 use Rattle.tis_base.specs.Saturation.{IsValue}
-use Rattle.tis_base.specs.Tiles.{Board}
+use Rattle.tis_base.specs.Tiles.{Tiles}
 use Rattle.tis_base.specs.declared.tiles.TileKind.TheVariants.{Compute}
 use Rattle.tis_asm.specs.declared.instr.Source.{Source}
 use Rattle.tis_asm.specs.declared.instr.Source.TheVariants as from
 use Rattle.tis_asm.specs.declared.instr.Instr.{Instr}
 use Rattle.tis_asm.specs.declared.instr.Instr.TheVariants.{Mov, Add, Sub, Neg}
-use Rattle.tis_asm.specs.declared.program.Line.{Line}
+use Rattle.tis_asm.specs.declared.program.MarkedInstr.{MarkedInstr}
 
 -- a source that is a number is one that the machine holds
 abbrev pub SourceHasValue : Source → Type 0
@@ -23,21 +23,21 @@ InstrHasValue (Sub source) = SourceHasValue source
 InstrHasValue Neg = Unit {0}
 
 -- each number in the program is one that the machine holds
-abbrev pub HasValues : List Line → Type 0
+abbrev pub HasValues : List MarkedInstr → Type 0
 HasValues [] = Unit {0}
-HasValues (line ∷ program) = InstrHasValue line.instr × HasValues program
+HasValues (marked ∷ program) = InstrHasValue marked.instr × HasValues program
 
 -- the tiles, and one program for each of them
-pub record Listing : Type 0 where
-  pub tiles : Board
-  pub programs : List (List Line)
+pub record Programs : Type 0 where
+  pub tiles : Tiles
+  pub programs : List (List MarkedInstr)
 
 -- the program of a tile
-abbrev pub program_at : List (List Line) → ℕ → List Line
+abbrev pub program_at : List (List MarkedInstr) → ℕ → List MarkedInstr
 program_at programs tile = get_or programs tile []
 
 -- there is one program for each tile, each has at most fifteen instructions, and only compute tiles have any
-pub record IsListing (listing : Listing) : Type 0 where
-  pub one_each : length listing.programs ≡ length listing.tiles.kinds
-  pub short : (tile : ℕ) → length (program_at listing.programs tile) ≤ 15
-  pub elsewhere : (tile : ℕ) → slice_get listing.tiles.kinds tile ≢ Some Compute → program_at listing.programs tile ≡ []
+pub record ArePrograms (programs : Programs) : Type 0 where
+  pub one_each : length programs.programs ≡ length programs.tiles.kinds
+  pub short : (tile : ℕ) → length (program_at programs.programs tile) ≤ 15
+  pub elsewhere : (tile : ℕ) → slice_get programs.tiles.kinds tile ≢ Some Compute → program_at programs.programs tile ≡ []

@@ -2,7 +2,8 @@
 use Rattle.std.specs.Prelude.{ℕ, ◌-◌, ℤ, List, [], ◌∷◌, ◌++◌, length, drop, ◌==◌, if◌then◌else◌}
 use Rattle.tis_base.specs.Tiles.{opposite}
 use Rattle.tis_base.specs.declared.tiles.Dir.TheVariants.{Up, Down}
-use Rattle.tis_asm.specs.PortRuns.{Step, Own, Took, Gave}
+use Rattle.tis_asm.specs.PortRuns.{Step, Took, Gave}
+use Rattle.tis_asm.specs.PortRuns as port
 use Rattle.tis_grid.specs.declared.event.Event.{Event}
 use Rattle.tis_grid.specs.declared.event.Event.TheVariants.{Local, Meet, In, Out, Push, Pop}
 use Rattle.tis_grid.specs.Puzzle.{values_at}
@@ -15,7 +16,7 @@ step_at tile other step = if other == tile then step ∷ [] else []
 
 -- what an event is for the node of one tile
 abbrev pub steps_in : Grid → State → Event → ℕ → List Step
-steps_in grid state (Local at) tile = step_at tile at.number Own
+steps_in grid state (Local at) tile = step_at tile at.number port.Local
 steps_in grid state (Meet at dir) tile = step_at tile at.number (Gave dir (offered state at.number dir)) ++ step_at tile (reached grid at.number dir) (Took (opposite dir) (offered state at.number dir))
 steps_in grid state (In position) tile = step_at tile position (Took Up (next_value grid state position))
 steps_in grid state (Out position) tile = step_at tile (bottom_of grid position) (Gave Down (offered state (bottom_of grid position) Down))
