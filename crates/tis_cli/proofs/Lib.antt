@@ -13,6 +13,7 @@ pub mod GridLaws
 pub mod PassStage
 pub mod Pipeline
 pub mod Bodies
+pub mod Fuel
 pub mod Rounds
 pub mod Instructions
 pub mod Places
