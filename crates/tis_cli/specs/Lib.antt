@@ -6,11 +6,12 @@ pub mod NetView
 pub mod Compiled
 pub mod Emission
 pub mod Saves
+pub mod Answers
 pub mod Commands
 pub mod Process
 pub mod Kahn
 pub mod Carries
 pub mod Outcomes
-pub mod CommandView
+pub mod Statuses
 pub mod Stage
 pub mod Behaves
