@@ -12,6 +12,7 @@ mod sink;
 mod store;
 mod tiles;
 mod transfer;
+mod turns;
 mod value;
 mod values;
 

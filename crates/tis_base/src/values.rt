@@ -1,5 +1,6 @@
 //! A list of values that grows at its end.
-ghost use Rattle.std.specs.Prelude.{◌≡◌, ◌<◌, [], ◌∷◌, ◌++◌, length, slice_get, OnOk, OnErr, Some, IsTrue, ◌↔◌, Contains, pos};
+ghost use Rattle.std.specs.Prelude.{◌≡◌, ◌<◌, All, [], ◌∷◌, ◌++◌, length, slice_get, OnOk, OnErr, Some, IsTrue, ◌↔◌, Contains, pos};
+ghost use Rattle.tis_base.specs.Saturation.{IsValue};
 
 use crate::memory::NoMemory;
 use crate::value::Value;
@@ -13,12 +14,15 @@ pub struct Values {
 }
 
 impl Model for Values {
-    ghost use Rattle.std.specs.Prelude.{◌-◌, vec_len, vec_capacity};
+    ghost use Rattle.std.specs.Prelude.{◌-◌, All, vec_len, vec_capacity};
+    ghost use Rattle.tis_base.specs.Saturation.{IsValue};
     ghost use Rattle.tis_base.specs.Values.{Values};
 
     ghost Value = { Values };
 
     ghost view = { λ v. record { items = v.values.items; spare = vec_capacity v.values - vec_len v.values } };
+
+    ghost invariant = { λ v. All IsValue v.values.items };
 }
 
 impl Values {
@@ -36,13 +40,16 @@ impl Values {
         ensures ok { OnOk result (self.new.items ≡ self.old.items ++ value ∷ []) }
         ensures err { OnErr result (self.new.items ≡ self.old.items) }
     {
+        // The call tells the proof that this is a value.
+        value.get();
         self.values.push(value)?;
         Ok(())
     }
 
     /// How many values the list has.
     pub fn len(&self) -> usize
-        ensures { result ≡ length self.now.items }
+        ensures len { result ≡ length self.now.items }
+        ensures held { All IsValue self.now.items }
     {
         self.values.len()
     }
@@ -57,7 +64,8 @@ impl Values {
     /// The value at an index from 0 on.
     pub fn at(&self, index: usize) -> Value
         requires { index < length self.now.items }
-        ensures { slice_get self.now.items index ≡ Some result }
+        ensures value { slice_get self.now.items index ≡ Some result }
+        ensures held { All IsValue self.now.items }
     {
         self.values[index]
     }
