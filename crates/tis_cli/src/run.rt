@@ -20,6 +20,8 @@ fn compile<S: Store>(alloc: Global, net: &str, save: &str, store: &mut S) -> Res
     ensures texts_stay { OnErr result (S.texts store.new ≡ S.texts store.old) }
     ensures missing_counted { IsErrOf result Status.Missing → Rose (S.misses store.old) (S.misses store.new) }
     ensures fault_counted { IsErrOf result Status.StoreFault → Rose (S.faults store.old) (S.faults store.new) }
+    ensures misses_stay { result ≢ Err Status.Missing → S.misses store.new ≡ S.misses store.old }
+    ensures faults_stay { result ≢ Err Status.StoreFault → S.faults store.new ≡ S.faults store.old }
 {
     let text = store.fetch(alloc, net)?;
     let tree = read_net(alloc, &text)?;
@@ -45,6 +47,8 @@ fn perform<S: Store>(alloc: Global, command: Command, store: &mut S) -> Status
     ensures texts_stay { result ≢ Status.Done → S.texts store.new ≡ S.texts store.old }
     ensures missing_counted { result ≡ Status.Missing → Rose (S.misses store.old) (S.misses store.new) }
     ensures fault_counted { result ≡ Status.StoreFault → Rose (S.faults store.old) (S.faults store.new) }
+    ensures misses_stay { result ≢ Status.Missing → S.misses store.new ≡ S.misses store.old }
+    ensures faults_stay { result ≢ Status.StoreFault → S.faults store.new ≡ S.faults store.old }
 {
     match command {
         Command::Compile { net, save } => status_of(compile(alloc, net, save, store)),
@@ -84,6 +88,11 @@ pub fn tool<S: Store, K: Sink>(
 
     // What the texts come to is answered, unless the outside failed or memory ran out.
     ensures complete { (command : SomeCommand) (texts : Texts) (found : List (List ℕ)) (answer : Answer) → IsCalled (words_of words.now) (S.texts store.old) command texts → texts_under texts (fetched command) ≡ Some found → ComesTo command found answer → IsUnlessFault (destination_of command) result (answer_status answer) }
+
+    // No fault and no miss is passed over.
+    ensures misses_stay { result ≢ Status.Missing → S.misses store.new ≡ S.misses store.old }
+    ensures faults_stay { result ≢ Status.StoreFault → S.faults store.new ≡ S.faults store.old }
+    ensures sink_faults_stay { result ≢ Status.SinkFault → K.faults out.new ≡ K.faults out.old }
 
     // Nothing else changes.
     ensures texts_stay { result ≢ Status.Done → S.texts store.new ≡ S.texts store.old }
