@@ -67,3 +67,14 @@ impl Value {
         0 <= self.number && u64::from(self.number.unsigned_abs()) == number
     }
 }
+
+impl Default for Value {
+    ghost use Rattle.std.specs.Prelude.{◌≡◌, pos};
+
+    ghost is_default = { λ value. value ≡ pos 0 };
+
+    /// The number 0.
+    fn default() -> Self {
+        Value { number: 0 }
+    }
+}
