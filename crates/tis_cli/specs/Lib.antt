@@ -12,5 +12,4 @@ pub mod Kahn
 pub mod Carries
 pub mod Outcomes
 pub mod CommandView
-pub mod Stage
 pub mod Behaves
