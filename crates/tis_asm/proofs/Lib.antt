@@ -1,3 +1,5 @@
+pub mod Values
+pub mod Progress
 pub mod Texts
 pub mod Passing
 pub mod Counting

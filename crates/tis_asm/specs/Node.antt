@@ -1,6 +1,6 @@
 -- One compute node: what it is, and each thing that it can do, by the instruction at its pc.
 use Rattle.std.specs.Prelude.{◌≡◌, ℕ, ◌+◌, ◌<◌, ℤ, pos, ◌+ℤ◌, ◌-ℤ◌, neg_ℤ, Bool, true, false, List, [], ◌∷◌, length, Option, Some, None, option_map, slice_get, nat_lt, if◌then◌else◌}
-use Rattle.tis_base.specs.Saturation.{sat}
+use Rattle.tis_base.specs.Saturation.{sat, IsValue}
 use Rattle.tis_base.specs.declared.tiles.Dir.{Dir}
 use Rattle.tis_base.specs.declared.tiles.Dir.TheVariants.{Left, Right, Up, Down}
 use Rattle.tis_asm.specs.declared.instr.Source.{Source}
@@ -52,10 +52,22 @@ next_of program pc = if nat_lt (pc + 1) (length program) then pc + 1 else 0
 abbrev pub goes_on : List MarkedInstr → Node → Node
 goes_on program node = record node { pc = next_of program node.pc; mode = Ready }
 
--- a node of this program: its pc is the number of an instruction, and without instructions it is 0 and the node is ready
-abbrev pub FitsProgram : List MarkedInstr → Node → Type 0
-FitsProgram [] node = (node.pc ≡ 0) × (node.mode ≡ Ready)
-FitsProgram (marked ∷ program) node = node.pc < length (marked ∷ program)
+-- the pc is the number of an instruction, and without instructions it is 0 and the node is ready
+abbrev pub StandsIn : List MarkedInstr → Node → Type 0
+StandsIn [] node = (node.pc ≡ 0) × (node.mode ≡ Ready)
+StandsIn (marked ∷ program) node = node.pc < length (marked ∷ program)
+
+-- the number that a node writes, if it does, is one that the machine holds
+abbrev pub ModeHasValue : Mode → Type 0
+ModeHasValue Ready = Unit {0}
+ModeHasValue (Writing value toward) = IsValue value
+
+-- a node of this program: it stands in it, and its numbers are values of the machine
+pub record FitsProgram (program : List MarkedInstr) (node : Node) : Type 0 where
+  pub stands : StandsIn program node
+  pub acc : IsValue node.acc
+  pub bak : IsValue node.bak
+  pub mode : ModeHasValue node.mode
 
 -- ---- local steps
 

@@ -36,8 +36,9 @@ pub record Programs : Type 0 where
 abbrev pub program_at : List (List MarkedInstr) → ℕ → List MarkedInstr
 program_at programs tile = get_or programs tile []
 
--- there is one program for each tile, each has at most fifteen instructions, and only compute tiles have any
+-- there is one program for each tile, each has at most fifteen instructions, its numbers are values of the machine, and only compute tiles have any
 pub record ArePrograms (programs : Programs) : Type 0 where
   pub one_each : length programs.programs ≡ length programs.tiles.kinds
   pub short : (tile : ℕ) → length (program_at programs.programs tile) ≤ 15
+  pub values : (tile : ℕ) → HasValues (program_at programs.programs tile)
   pub elsewhere : (tile : ℕ) → slice_get programs.tiles.kinds tile ≢ Some Compute → program_at programs.programs tile ≡ []

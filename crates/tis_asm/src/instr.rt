@@ -4,6 +4,7 @@ ghost use Rattle.tis_base.specs.declared.tiles.Dir.TheVariants.{Up, Down};
 ghost use Rattle.tis_asm.specs.declared.instr.Source.TheVariants as from;
 ghost use Rattle.tis_asm.specs.declared.instr.Dest.TheVariants as to;
 ghost use Rattle.tis_asm.specs.declared.instr.Instr.TheVariants.{Mov};
+ghost use Rattle.tis_asm.specs.Programs.{SourceHasValue, InstrHasValue};
 
 use tis_base::{Dir, Value};
 
@@ -38,6 +39,29 @@ pub enum Instr {
     Sub(Source),
     /// `NEG`: turns the sign of ACC.
     Neg,
+}
+
+impl Source {
+    // The number of a source is a value of the machine.
+    fn held(&self)
+        ensures { SourceHasValue self.now }
+    {
+        if let Source::Number(value) = self {
+            value.get();
+        }
+    }
+}
+
+impl Instr {
+    // The number of an instruction, where it has one, is a value of the machine, as its type says.
+    pub(crate) fn held(&self)
+        ensures { InstrHasValue self.now }
+    {
+        match self {
+            Instr::Mov(source, _) | Instr::Add(source) | Instr::Sub(source) => source.held(),
+            Instr::Neg => {}
+        }
+    }
 }
 
 impl Default for Instr {

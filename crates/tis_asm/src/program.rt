@@ -1,6 +1,7 @@
 //! The program of one node.
 ghost use Rattle.std.specs.Prelude.{◌≡◌, ◌<◌, ◌↔◌, [], ◌∷◌, ◌++◌, length, slice_get, option_map, Some, IsTrue, ◌≤◌};
 ghost use Rattle.std.specs.Bool.{OnTrue, OnFalse};
+ghost use Rattle.tis_asm.specs.Programs.{HasValues};
 
 use crate::instr::Instr;
 use arrayvec::ArrayVec;
@@ -25,10 +26,13 @@ pub struct Program {
 impl Model for Program {
     ghost use Rattle.std.specs.Prelude.{List};
     ghost use Rattle.tis_asm.specs.declared.program.MarkedInstr.{MarkedInstr};
+    ghost use Rattle.tis_asm.specs.Programs.{HasValues};
 
     ghost Value = { List MarkedInstr };
 
     ghost view = { λ p. p.instrs.items };
+
+    ghost invariant = { λ p. HasValues p.instrs.items };
 }
 
 impl Program {
@@ -45,6 +49,7 @@ impl Program {
     pub fn len(&self) -> u8
         ensures len { result ≡ length self.now }
         ensures short { length self.now ≤ 15 }
+        ensures values { HasValues self.now }
     {
         self.instrs.len() as u8
     }
@@ -87,6 +92,11 @@ impl Program {
         ensures pushed { OnTrue result (self.new ≡ self.old ++ record { instr = instr; mark = mark } ∷ []) }
         ensures unchanged { OnFalse result (self.new ≡ self.old) }
     {
-        self.instrs.try_push(MarkedInstr { instr, mark }).is_ok()
+        if self.instrs.is_full() {
+            return false;
+        }
+        instr.held();
+        self.instrs.push(MarkedInstr { instr, mark });
+        true
     }
 }

@@ -5,12 +5,12 @@ use Rattle.std.proofs.lemmas.List.{length-map, map-append}
 use Rattle.tis_base.specs.Prefix.{IsPrefixOf}
 use Rattle.tis_base.specs.declared.tiles.Dir.TheVariants.{Up, Down}
 use Rattle.tis_asm.specs.Node.{Node, fresh}
-use Rattle.tis_asm.specs.PortRuns.{Step, after_steps, taken_from, given_to}
+use Rattle.tis_asm.specs.PortRuns.{Step, IsPortRun, after_steps, taken_from, given_to}
 use Rattle.tis_cli.specs.Net.{Name, Statement}
 use Rattle.tis_cli.specs.Process.{Streams, WaitsOn, OutOfFuel, beginning, process_run, block_cost, body_cost}
 use Rattle.tis_cli.specs.Compiled.{code_of}
 use Rattle.tis_cli.specs.Behaves.{stream_of, process_over, BehavesAfter, Behaves, ProcessesBehave, ProcessesWait}
-use Rattle.tis_cli.specs.Stage.{WorksAs, Stage}
+use Rattle.tis_cli.proofs.Stage.{WorksAs, Stage}
 use Rattle.tis_cli.proofs.Bodies.{Round, Moves, Computes, round_value, round_local, round_of}
 use Rattle.tis_cli.proofs.Rounds.{with_stream-same, SendsAll, sends_all}
 use Rattle.tis_cli.proofs.Places.{RunStands, run_stands}
@@ -66,12 +66,21 @@ pub sends_over : {read written : Name} {body : List Statement} (round : Round re
 sends_over {body = body} round streams values fuel enough is =
     sends_all round values fuel (beginning streams fuel) (omega (arith, enough_rounds (length values) (body_cost body) fuel (omega arith) enough)) (omega (arith, enough_fuel (length values) (length body) (body_cost body) fuel (ap (λ (cost : ℕ). 2 + 2 * cost) (block_cost-length body)) enough)) is
 
--- the code of each body behaves as its process
-pub body_behaves : {read written : Name} {body : List Statement} → Round read written body → Behaves (code_of body) body read written
-body_behaves {read = read} {written = written} {body = body} round steps run =
+-- after each run the node is where its process is
+run_behaves : {read written : Name} {body : List Statement} → Round read written body → (steps : List Step) → IsPortRun (code_of body) fresh steps → BehavesAfter (code_of body) (process_over body read (taken_from Up steps)) read written steps (after_steps (code_of body) fresh steps)
+run_behaves {read = read} {written = written} {body = body} round steps run =
     let taken = taken_from Up steps in
     behaves_after read written body (round_value round) (round_local round) steps (after_steps (code_of body) fresh steps) (round_local_few round) (run_stands round steps run)
     (sends_over round (stream_of read taken) taken ((1 + length taken) * body_cost body + 1) (omega arith) (with_stream-same (λ name. []) read taken))
+
+-- the code of a body has an instruction
+round_some : {read written : Name} {body : List Statement} → Round read written body → 0 < length (code_of body)
+round_some Moves = omega arith
+round_some (Computes rest view) = omega arith
+
+-- the code of each body behaves as its process
+pub body_behaves : {read written : Name} {body : List Statement} → Round read written body → Behaves (code_of body) body read written
+body_behaves round = record { some = round_some round; after = λ steps run. run_behaves round steps run }
 
 -- the code of each process of a column behaves as the process
 pub processes_behave : ProcessesBehave

@@ -10,7 +10,7 @@ use Rattle.tis_cli.specs.Net.{Name, Statement, ChannelLine, Process, Net}
 use Rattle.tis_cli.specs.Process.{Streams, reads, cost, beginning}
 use Rattle.tis_cli.specs.Kahn.{input_streams, readable, read_count, step_limit, run_of, joined, streams_from, kahn_streams, kahn_at, step_limits, bound}
 use Rattle.tis_cli.specs.Column.{StandInLine, channel_of, Column, links_below, IsColumn, column_net}
-use Rattle.tis_cli.specs.Stage.{made_by, most_steps}
+use Rattle.tis_cli.proofs.Stage.{made_by, most_steps}
 use Rattle.tis_cli.proofs.Bodies.{Round, Moves, Computes, round_value, round_of}
 use Rattle.tis_cli.proofs.Rounds.{bytes_eq-self, with_stream-same, with_stream-other, SendsAll}
 use Rattle.tis_cli.proofs.Places.{both_empty}

@@ -11,7 +11,7 @@ use Rattle.tis_base.specs.declared.tiles.TileKind.{TileKind}
 use Rattle.tis_base.specs.declared.tiles.TileKind.TheVariants.{Compute}
 use Rattle.tis_base.specs.declared.tiles.Dir.TheVariants.{Down}
 use Rattle.tis_asm.specs.declared.program.MarkedInstr.{MarkedInstr}
-use Rattle.tis_asm.specs.Programs.{ArePrograms, HasValues, program_at}
+use Rattle.tis_asm.specs.Programs.{ArePrograms, HasValues}
 use Rattle.tis_grid.specs.Puzzle.{Puzzle, Input, Output, IsPuzzle}
 use Rattle.tis_grid.specs.State.{Grid, IsGrid}
 use Rattle.tis_grid.specs.Events.{program_of}
@@ -19,7 +19,7 @@ use Rattle.tis_cli.specs.Net.{Name, Process}
 use Rattle.tis_cli.specs.Column.{StandInLine, Column, links_below, IsColumn, plain_tiles, column_net}
 use Rattle.tis_cli.specs.Compiled.{statement_code, code_of, pass_code, passes, stands_at, process_code_at, program_for, compiled}
 use Rattle.tis_cli.specs.Carries.{grid_with}
-use Rattle.tis_cli.specs.Stage.{Stage, StandsOn, StandDown, IsAmong, IsPipeline}
+use Rattle.tis_cli.proofs.Stage.{Stage, StandsOn, StandDown, IsAmong, IsPipeline}
 use Rattle.tis_cli.proofs.Bodies.{body_short}
 use Rattle.tis_cli.proofs.BodyValues.{body_values}
 use Rattle.tis_cli.proofs.PassStage.{pass_stage}
@@ -190,16 +190,13 @@ program-values column inputs outputs tile is_column =
       | inr outside ↦ subst (λ (p : List MarkedInstr). HasValues p) (sym (program-outside column inputs outputs tile outside)) tt
     ]
 
--- so are those in the programs of a column
-pub column_values : (column : Column) → IsColumn column → (tile : ℕ) → HasValues (program_at (compiled (column_net column)).programs tile)
-column_values column is_column tile = program-values column [] [] tile is_column
-
 -- the programs of a column are a programs
 pub column_are_programs : (column : Column) → IsColumn column → ArePrograms (compiled (column_net column))
 column_are_programs column is_column =
     record {
       one_each = refl;
       short = λ tile. program-short column [] [] tile is_column;
+      values = λ tile. program-values column [] [] tile is_column;
       elsewhere = λ tile apart. elim (cases_lt tile 12) [ inl inside ↦ absurd (apart (is_compute-plain tile inside)) | inr outside ↦ program-outside column [] [] tile outside ];
     }
 

@@ -13,7 +13,7 @@ use Rattle.tis_cli.specs.Column.{Column, IsColumn, tiles_below, column_net, NetO
 use Rattle.tis_cli.specs.Net.{Net}
 use Rattle.tis_cli.specs.Compiled.{program_for, compiled}
 use Rattle.tis_cli.specs.Carries.{FitsNet, grid_with, FollowsNet, Carries}
-use Rattle.tis_cli.specs.Stage.{Stage, FollowsPipeline}
+use Rattle.tis_cli.proofs.Stage.{Stage, FollowsPipeline}
 use Rattle.tis_cli.proofs.GridLaws.{GridLaws, every_grid}
 use Rattle.tis_cli.proofs.Pipeline.{follows_stack}
 use Rattle.tis_cli.proofs.ColumnStages.{column_stages, length-column_stages, HavePrograms}

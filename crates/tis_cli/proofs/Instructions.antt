@@ -3,11 +3,12 @@ use Rattle.std.proofs.Common.{◌≡◌, ℕ, ◌+◌, ◌<◌, ◌≤◌, true,
 use Rattle.std.specs.Prelude.{IsTrue}
 use Rattle.std.proofs.lemmas.List.{length-map}
 use Rattle.std.proofs.lemmas.Bool.{lt-ltb, le-ltb}
+use Rattle.tis_base.specs.Saturation.{IsValue}
 use Rattle.tis_base.specs.declared.tiles.Dir.{Dir}
 use Rattle.tis_base.specs.declared.tiles.Dir.TheVariants.{Down}
 use Rattle.tis_asm.specs.declared.instr.Instr.{Instr}
 use Rattle.tis_asm.specs.declared.program.MarkedInstr.{MarkedInstr}
-use Rattle.tis_asm.specs.Node.{Node, Mode, Writing, One, instr_at, next_of, goes_on, is_local, can_local_in, source_of, value_at_hand, with_value, reads_from, wants_in, offers_in, gave}
+use Rattle.tis_asm.specs.Node.{Node, Mode, Writing, One, instr_at, next_of, goes_on, is_local, can_local_in, source_of, value_at_hand, with_value, reads_from, wants, wants_in, offers_in, gave}
 use Rattle.tis_asm.specs.PortRuns.{Step, Local, Took, Gave, IsStep, after_step}
 use Rattle.tis_cli.specs.Net.{Name, X, Statement, Get, Put, PutNumber, Move, Set, Add, Sub, Neg, Double}
 use Rattle.tis_cli.specs.Column.{IsOperation, SendsOn}
@@ -75,7 +76,7 @@ inner-sends written (Double X) sends = absurd sends
 -- a node can make this step
 abbrev pub IsStepIn : Mode → Option Instr → Step → Type 0
 IsStepIn mode instr Local = IsTrue (can_local_in mode instr)
-IsStepIn mode instr (Took dir value) = IsTrue (wants_in mode instr dir)
+IsStepIn mode instr (Took dir value) = IsTrue (wants_in mode instr dir) × IsValue value
 IsStepIn mode instr (Gave dir value) = offers_in mode dir ≡ Some value
 
 -- the node after it
@@ -84,10 +85,14 @@ after_in instr program node Local = with_value instr program node (value_at_hand
 after_in instr program node (Took dir value) = with_value instr program node value
 after_in instr program node (Gave dir value) = gave program node dir
 
+-- a node that waits for a value from a port, where mode and instruction are known
+pub waits_in : (program : List MarkedInstr) (node : Node) (mode : Mode) (instr : Option Instr) → node.mode ≡ mode → instr_at program node.pc ≡ instr → (dir : Dir) → IsTrue (wants program node dir) → IsTrue (wants_in mode instr dir)
+waits_in program node mode instr is_mode is_instr dir waits = rw (← is_mode, ← is_instr) waits
+
 -- the same step, where mode and instruction are known
 pub step_in : (program : List MarkedInstr) (node : Node) (mode : Mode) (instr : Option Instr) → node.mode ≡ mode → instr_at program node.pc ≡ instr → (step : Step) → IsStep program node step → IsStepIn mode instr step
 step_in program node mode instr is_mode is_instr Local can = rw (← is_mode, ← is_instr) can
-step_in program node mode instr is_mode is_instr (Took dir value) can = rw (← is_mode, ← is_instr) can
+step_in program node mode instr is_mode is_instr (Took dir value) can = (waits_in program node mode instr is_mode is_instr dir can.0, can.1)
 step_in program node mode instr is_mode is_instr (Gave dir value) can = rw (← is_mode) can
 
 -- and where it leads

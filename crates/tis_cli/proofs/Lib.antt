@@ -10,6 +10,7 @@ pub mod Emitted
 pub mod Explained
 pub mod Statuses
 pub mod GridLaws
+pub mod Stage
 pub mod PassStage
 pub mod Pipeline
 pub mod Bodies

@@ -8,7 +8,7 @@ use Rattle.tis_asm.specs.PortRuns.{Step, taken_from, given_to}
 use Rattle.tis_asm.specs.Passing.{in_hand, WaitsAt, Passes}
 use Rattle.tis_asm.proofs.Passing.{moves_pass_values}
 use Rattle.tis_cli.specs.Compiled.{pass_code}
-use Rattle.tis_cli.specs.Stage.{Next, WaitsAbove, GivesBelow, WorksAs, Stage}
+use Rattle.tis_cli.proofs.Stage.{Next, WaitsAbove, GivesBelow, WorksAs, Stage}
 
 -- a node that waits for more has nothing in hand
 nothing_in_hand : (mode : Mode) (pc : ℕ) (given taken : List ℤ) → given ++ in_hand mode ≡ taken → IsTrue (wants_in mode (instr_at pass_code pc) Up) → given ≡ taken

@@ -23,7 +23,7 @@ use Rattle.tis_grid.specs.Events.{program_of, next_tile, bottom_of, Wants, Offer
 use Rattle.tis_grid.specs.Orders.{Fits, after, IsLegal, IsAtRest}
 use Rattle.tis_grid.specs.TileSteps.{steps_of, values_left}
 use Rattle.tis_grid.specs.Laws.{IsOrder}
-use Rattle.tis_cli.specs.Stage.{Next, GoesOn, WaitsAbove, GivesBelow, WorksAs, Stage, made_by, most_steps, StandsOn, below, StandDown, IsAmong, IsPipeline, FollowsPipeline}
+use Rattle.tis_cli.proofs.Stage.{Next, GoesOn, WaitsAbove, GivesBelow, WorksAs, Stage, made_by, most_steps, StandsOn, below, StandDown, IsAmong, IsPipeline, FollowsPipeline}
 use Rattle.tis_cli.proofs.GridLaws.{GridLaws}
 
 -- ---- lists

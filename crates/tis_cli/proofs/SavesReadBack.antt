@@ -101,7 +101,7 @@ head_is_right tiles above number tile inside computing fresh = rw (is_head_on-he
 
 -- ---- the blocks of all tiles
 
-module _ (programs : Programs) (small : length programs.tiles.kinds < 2 ^ 64) (is : ArePrograms programs) (are : (tile : ℕ) → HasValues (program_at programs.programs tile)) where
+module _ (programs : Programs) (small : length programs.tiles.kinds < 2 ^ 64) (is : ArePrograms programs) where
   -- the lines of the blocks of so many tiles from this one on
   abbrev lines_from : ℕ → ℕ → List (List ℕ)
   lines_from start count = flat_map (tile_section programs) (range_with_len start count)
@@ -194,7 +194,7 @@ module _ (programs : Programs) (small : length programs.tiles.kinds < 2 ^ 64) (i
       elim (cases_Bool (computes programs.tiles tile)) [
         | inl computing ↦
             ap (λ (b : Bool). cond b (in_block (block_of programs.tiles tile) (assembled_lines (block_lines (head_at tile) all_lines))) (Ok [])) computing
-            ∙ ap (in_block (block_of programs.tiles tile)) (ap assembled_lines (each_block tile 0 (length programs.tiles.kinds) (omega arith) (omega arith) (omega arith) computing) ∙ body-read (code_at tile) (is.short tile) (are tile))
+            ∙ ap (in_block (block_of programs.tiles tile)) (ap assembled_lines (each_block tile 0 (length programs.tiles.kinds) (omega arith) (omega arith) (omega arith) computing) ∙ body-read (code_at tile) (is.short tile) (is.values tile))
         | inr resting ↦
             ap (λ (b : Bool). cond b (in_block (block_of programs.tiles tile) (assembled_lines (block_lines (head_at tile) all_lines))) (Ok [])) resting
             ∙ ap (λ (program : List MarkedInstr). Ok program) (sym (no_program programs is tile resting))
@@ -223,8 +223,8 @@ module _ (programs : Programs) (small : length programs.tiles.kinds < 2 ^ 64) (i
   -- the text of a save is read as the programs
   pub save-read : save_of (save_text programs) programs.tiles ≡ Ok programs
   unfolding save_of
-  save-read = ap (λ (lines : List (List ℕ)). save_of_lines lines programs.tiles) (sections-lines programs (range_with_len 0 (length programs.tiles.kinds)) are small) ∙ all_lines-read
+  save-read = ap (λ (lines : List (List ℕ)). save_of_lines lines programs.tiles) (sections-lines programs (range_with_len 0 (length programs.tiles.kinds)) is.values small) ∙ all_lines-read
 
--- the canonical save of a programs whose numbers are values is read as that programs
+-- the canonical save of a programs is read as that programs
 pub saves_read_back : SavesReadBack
-saves_read_back programs board is are = save-read programs (omega (arith, board.filled, ap (λ (columns : ℕ). columns * programs.tiles.shape.rows) board.allowed.0, ap (λ (rows : ℕ). 4 * rows) board.allowed.1)) is are
+saves_read_back programs board is = save-read programs (omega (arith, board.filled, ap (λ (columns : ℕ). columns * programs.tiles.shape.rows) board.allowed.0, ap (λ (rows : ℕ). 4 * rows) board.allowed.1)) is

@@ -29,9 +29,10 @@ pub record BehavesAfter (program : List MarkedInstr) (process : Execution) (read
   pub local : local_count steps ≤ 8 * process.state.steps
   pub within_fuel : process.outcome ≢ OutOfFuel
 
--- whatever its neighbours do, the program behaves as the process over the values that it took
-abbrev pub Behaves : List MarkedInstr → List Statement → Name → Name → Type 0
-Behaves program body read written = (steps : List Step) → IsPortRun program fresh steps → BehavesAfter program (process_over body read (taken_from Up steps)) read written steps (after_steps program fresh steps)
+-- the program has an instruction, so that its node is never stuck by itself; and whatever its neighbours do, it behaves as the process over the values that it took
+pub record Behaves (program : List MarkedInstr) (body : List Statement) (read written : Name) : Type 0 where
+  pub some : 0 < length program
+  pub after : (steps : List Step) → IsPortRun program fresh steps → BehavesAfter program (process_over body read (taken_from Up steps)) read written steps (after_steps program fresh steps)
 
 -- the code of each process of a column behaves as the process
 abbrev pub ProcessesBehave : Type 0

@@ -13,5 +13,4 @@ pub mod Kahn
 pub mod Carries
 pub mod Outcomes
 pub mod Statuses
-pub mod Stage
 pub mod Behaves

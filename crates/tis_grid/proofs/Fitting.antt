@@ -1,11 +1,14 @@
 -- The start is a state of its grid, and so is what an event leads to.
 use Rattle.std.proofs.Common.{◌≡◌, ℕ, zero, suc, ◌-◌, ◌<◌, ◌≤◌, ℤ, List, [], ◌∷◌, ◌++◌, length, map, replicate, get_or, set, inl, inr, refl, sym, ap, ◌∙◌, subst, arith, length-append, length-take}
+use Rattle.std.specs.Prelude.{All}
 use Rattle.std.specs.List.{range_with_len}
+use Rattle.std.proofs.lemmas.List.Elements.{All-nil, All-push, All-take}
 use Rattle.std.proofs.lemmas.Bool.{cases_eq, cases_lt}
 use Rattle.std.proofs.lemmas.List.{length-set, length-replicate, get_or-set_same, get_or-set_other, get_or_past, set_past}
 use Rattle.std.proofs.lemmas.List.FromFn.{length-map-range_with_len, get_or-map-range_with_len}
-use Rattle.tis_asm.specs.declared.program.MarkedInstr.{MarkedInstr}
+use Rattle.tis_base.specs.Saturation.{IsValue}
 use Rattle.tis_asm.specs.Node.{Node, fresh, FitsProgram}
+use Rattle.tis_asm.proofs.Progress.{fresh_fits}
 use Rattle.tis_grid.specs.declared.event.Event.{Event}
 use Rattle.tis_grid.specs.declared.event.Event.TheVariants.{Local, Meet, In, Out, Push, Pop}
 use Rattle.tis_grid.specs.Puzzle.{values_at}
@@ -16,6 +19,7 @@ use Rattle.tis_grid.specs.TileSteps.{steps_in}
 use Rattle.tis_grid.proofs.Runs.{does_fit}
 use Rattle.tis_grid.proofs.Steps.{event_does}
 use Rattle.tis_grid.proofs.Enabled.{reached_is}
+use Rattle.tis_grid.proofs.Held.{offered_value}
 
 -- ---- the start
 
@@ -24,11 +28,6 @@ get_or-replicate : {X : Type 0} → (count index : ℕ) (value : X) → get_or (
 get_or-replicate zero index value = refl
 get_or-replicate (suc count) zero value = refl
 get_or-replicate (suc count) (suc index) value = get_or-replicate count index value
-
--- a fresh node is one of each program
-fresh_fits : (program : List MarkedInstr) → FitsProgram program fresh
-fresh_fits [] = (refl, refl)
-fresh_fits (line ∷ program) = omega arith
 
 -- an element of a list of counts isn't above the count
 count_within : (count : ℕ → ℕ) (columns position : ℕ) → get_or (map count (range_with_len 0 columns)) position 0 ≤ count position
@@ -49,6 +48,7 @@ start_fitting grid =
       each = λ tile. subst (λ (node : Node). FitsProgram (program_of grid tile) node) (sym (get_or-replicate (length grid.puzzle.tiles.kinds) tile fresh)) (fresh_fits (program_of grid tile));
       within = λ position. count_within (λ p. length (values_at grid.puzzle.inputs p)) grid.puzzle.tiles.shape.columns position;
       room = λ tile. let none : length (stack_at (start grid) tile) ≡ 0 = ap length (get_or-replicate {X = List ℤ} (length grid.puzzle.tiles.kinds) tile []) in omega arith;
+      values = λ tile. subst (λ (values : List ℤ). All IsValue values) (sym (get_or-replicate {X = List ℤ} (length grid.puzzle.tiles.kinds) tile [])) (All-nil IsValue);
     }
 
 -- ---- what an event keeps
@@ -134,6 +134,21 @@ module _ (grid : Grid) (state : State) where
       let values = stack_at state (reached grid at.number dir) in
       get_or-set_holds (λ (values : List ℤ). length values ≤ STACK_ROOM) state.stacks (reached grid at.number dir) tile (without_newest values) [] (omega (arith, length-take (length values - 1) values, room (reached grid at.number dir))) (room tile)
 
+  -- stacks hold values
+  values_kept : Fits grid state → (event : Event) → IsEnabled grid state event → (tile : ℕ) → All IsValue (stack_at (after_event grid state event) tile)
+  values_kept fits (Local at) is tile = fits.values tile
+  values_kept fits (Meet at dir) is tile = fits.values tile
+  values_kept fits (In position) is tile = fits.values tile
+  values_kept fits (Out position) is tile = fits.values tile
+  values_kept fits (Push at dir) is tile =
+      let stack = reached grid at.number dir in
+      get_or-set_holds (λ (values : List ℤ). All IsValue values) state.stacks stack tile (stack_at state stack ++ offered state at.number dir ∷ []) []
+      (All-push IsValue (stack_at state stack) (offered state at.number dir) (fits.values stack) (offered_value grid state at.number dir fits is.2)) (fits.values tile)
+  values_kept fits (Pop at dir) is tile =
+      let values = stack_at state (reached grid at.number dir) in
+      get_or-set_holds (λ (values : List ℤ). All IsValue values) state.stacks (reached grid at.number dir) tile (without_newest values) []
+      (All-take IsValue (length values - 1) values (fits.values (reached grid at.number dir))) (fits.values tile)
+
   -- the state after an event fits
   pub event_fitting : (event : Event) → IsGrid grid → Fits grid state → IsEnabled grid state event → Fits grid (after_event grid state event)
   event_fitting event is_grid fits is =
@@ -142,7 +157,8 @@ module _ (grid : Grid) (state : State) where
         stacks = stacks_kept event ∙ fits.stacks;
         left = left_kept event ∙ fits.left;
         outs = outs_kept event ∙ fits.outs;
-        each = λ tile. does_fit (program_of grid tile) (node_at state tile) (steps_in grid state event tile) (node_at (after_event grid state event) tile) (fits.each tile) (event_does grid state is_grid fits tile event is);
+        each = λ tile. does_fit (program_of grid tile) (node_at state tile) (steps_in grid state event tile) (node_at (after_event grid state event) tile) (is_grid.programs.values tile) (fits.each tile) (event_does grid state is_grid fits tile event is);
         within = λ position. omega (arith, left_falls event position, fits.within position);
         room = room_kept event is fits.room;
+        values = values_kept fits event is;
       }

@@ -3,6 +3,7 @@ pub mod Ports
 pub mod Runs
 pub mod Acting
 pub mod Enabled
+pub mod Held
 pub mod Steps
 pub mod Fitting
 pub mod Links
