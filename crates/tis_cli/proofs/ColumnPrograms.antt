@@ -190,7 +190,7 @@ program-values column inputs outputs tile is_column =
       | inr outside ↦ subst (λ (p : List MarkedInstr). HasValues p) (sym (program-outside column inputs outputs tile outside)) tt
     ]
 
--- the programs of a column are a programs
+-- the programs of a column are programs of its tiles
 pub column_are_programs : (column : Column) → IsColumn column → ArePrograms (compiled (column_net column))
 column_are_programs column is_column =
     record {

@@ -1,4 +1,4 @@
--- The canonical save of a programs whose numbers are values is read as that programs.
+-- The canonical save of programs is read as these programs.
 use Rattle.std.proofs.Common.{◌≡◌, ℕ, zero, suc, ◌+◌, ◌*◌, ◌^◌, ◌<◌, ◌≤◌, Bool, true, false, cond, List, [], ◌∷◌, ◌++◌, length, map, Option, Some, None, refl, sym, ap, subst, ◌∙◌, inl, inr, arith, append_assoc}
 use Rattle.std.specs.Prelude.{◌&&◌, flat_map, not, Result, Ok}
 use Rattle.std.specs.List.{range_with_len, list_all, list_any, take_while}
@@ -214,7 +214,7 @@ module _ (programs : Programs) (small : length programs.tiles.kinds < 2 ^ 64) (i
       ext_get_or [] (map (program_at programs.programs) (range_with_len 0 (length programs.tiles.kinds))) programs.programs (same ∙ sym is.one_each)
       (λ tile lt. get_or-map-range_with_len (program_at programs.programs) 0 (length programs.tiles.kinds) tile tile [] (omega (arith, same)) (omega arith))
 
-  -- the lines of a save are read as the programs
+  -- the lines of a save are read as its programs
   all_lines-read : save_of_lines all_lines programs.tiles ≡ Ok programs
   all_lines-read =
       ap (λ (fault : Option SaveRefusal). programs_read programs.tiles fault (programs_of programs.tiles all_lines (range_with_len 0 (length programs.tiles.kinds)))) (lines_are_right 0 (length programs.tiles.kinds) [] (omega arith) (λ tile low inside computing. refl))
@@ -225,6 +225,6 @@ module _ (programs : Programs) (small : length programs.tiles.kinds < 2 ^ 64) (i
   unfolding save_of
   save-read = ap (λ (lines : List (List ℕ)). save_of_lines lines programs.tiles) (sections-lines programs (range_with_len 0 (length programs.tiles.kinds)) is.values small) ∙ all_lines-read
 
--- the canonical save of a programs is read as that programs
+-- the canonical save of programs is read as these programs
 pub saves_read_back : SavesReadBack
 saves_read_back programs board is = save-read programs (omega (arith, board.filled, ap (λ (columns : ℕ). columns * programs.tiles.shape.rows) board.allowed.0, ap (λ (rows : ℕ). 4 * rows) board.allowed.1)) is

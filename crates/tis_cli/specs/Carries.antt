@@ -14,7 +14,7 @@ pub record FitsNet (puzzle : Puzzle) (net : Net) : Type 0 where
   pub tiles : puzzle.tiles ≡ net.tiles
   pub outputs : All (λ port. HasOutput puzzle.outputs port.position) net.outputs
 
--- the grid of a puzzle and the programs of a programs
+-- the grid of a puzzle and these programs
 abbrev pub grid_with : Puzzle → Programs → Grid
 grid_with puzzle programs = record { puzzle = puzzle; programs = programs.programs }
 

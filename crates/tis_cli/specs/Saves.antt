@@ -1,4 +1,4 @@
--- The canonical save of a programs, and the programs that a save gives.
+-- The canonical save of programs, and the programs that a save gives.
 use Rattle.std.specs.Prelude.{◌≡◌, ℕ, ◌+◌, Bool, false, ◌&&◌, ◌||◌, not, List, [], ◌∷◌, ◌++◌, length, flat_map, Option, Some, None, Result, Ok, Err, ◌==◌, decimal, get_or, if◌then◌else◌}
 use Rattle.std.specs.List.{range_with_len, list_any, take_while}
 use Rattle.std.specs.Option.{option_or}
@@ -113,6 +113,6 @@ save_of text tiles = save_of_lines (text_lines text) tiles
 
 -- ---- both
 
--- the canonical save of a programs is read as that programs
+-- the canonical save of programs is read as these programs
 abbrev pub SavesReadBack : Type 0
 SavesReadBack = (programs : Programs) → AreTiles programs.tiles.shape programs.tiles.kinds → ArePrograms programs → save_of (save_text programs) programs.tiles ≡ Ok programs

@@ -5,8 +5,17 @@ ghost use Rattle.tis_devices.specs.Picture.{COLUMNS, ROWS, black, after_value, p
 use std::marker::Model;
 use tis_base::Value;
 
-// How many points the console has: thirty columns by eighteen rows.
+// How many columns and rows the console has, and how many points.
+const WIDTH: u16 = 30;
+
+const HEIGHT: u16 = 18;
+
 const POINTS: usize = 540;
+
+// The greatest colour, and the column at which a drawing stays.
+const GREATEST: u16 = 4;
+
+const FURTHEST: u16 = 1000;
 
 /// Where a drawing stands.
 #[derive(Clone, Copy, Debug, PartialEq, Eq, Hash)]
@@ -32,9 +41,11 @@ impl Model for Console {
 
     ghost Value = { Picture };
 
-    ghost use Rattle.tis_devices.specs.PlaceView.{place_view};
+    ghost use Rattle.tis_devices.specs.PlaceView.{place_view, HasColumn};
 
     ghost view = { λ c. record { colours = c.colours; place = place_view c.place } };
+
+    ghost invariant = { λ c. HasColumn c.place };
 }
 
 impl Console {
@@ -64,10 +75,13 @@ impl Console {
             Place::BeforeX => Place::BeforeY { x: number },
             Place::BeforeY { x } => Place::Before { x, y: number },
             Place::Before { x, y } => {
-                if x < 30 && y < 18 && number <= 4 {
-                    self.colours[y as usize * 30 + x as usize] = number as u8;
+                if x < WIDTH && y < HEIGHT && number <= GREATEST {
+                    self.colours[(y * WIDTH + x) as usize] = number as u8;
                 }
-                Place::Before { x: (x + 1).min(1000), y }
+                Place::Before {
+                    x: (x + 1).min(FURTHEST),
+                    y,
+                }
             }
         };
     }
@@ -78,6 +92,6 @@ impl Console {
         requires row { y < ROWS }
         ensures { slice_get self.now.colours (point_of x y) ≡ Some result }
     {
-        self.colours[y as usize * 30 + x as usize]
+        self.colours[(u16::from(y) * WIDTH + u16::from(x)) as usize]
     }
 }
