@@ -40,14 +40,15 @@ impl Stack {
 
     /// Whether fifteen values are there.
     pub fn is_full(&self) -> bool
-        ensures { IsTrue result ↔ (length self.now ≡ ROOM) }
+        ensures full { IsTrue result ↔ (length self.now ≡ ROOM) }
+        ensures room { length self.now ≤ ROOM }
     {
         self.values.is_full()
     }
 
     /// Whether no value is there.
     pub fn is_empty(&self) -> bool
-        ensures { IsTrue result ↔ (self.now ≡ []) }
+        ensures { IsTrue result ↔ (length self.now ≡ 0) }
     {
         self.values.is_empty()
     }
