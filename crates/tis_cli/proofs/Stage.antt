@@ -9,9 +9,9 @@ use Rattle.tis_asm.specs.Node.{Node, fresh, can_local, wants, offers}
 use Rattle.tis_asm.specs.PortRuns.{Step, IsPortRun, after_steps, taken_from, given_to, local_count}
 use Rattle.tis_grid.specs.declared.event.Event.{Event}
 use Rattle.tis_grid.specs.Puzzle.{HasOutput, values_at}
-use Rattle.tis_grid.specs.State.{Grid, outs, start}
+use Rattle.tis_grid.specs.State.{Grid, State, outs}
 use Rattle.tis_grid.specs.Events.{program_of, next_tile, bottom_of}
-use Rattle.tis_grid.specs.Orders.{after, IsAtRest}
+use Rattle.tis_grid.specs.Orders.{IsAtRest}
 
 -- what a stage can do next: a local step, or take a value from above, or give one downwards
 pub data Next (program : List MarkedInstr) (node : Node) : Type 0 where
@@ -78,9 +78,9 @@ pub record IsPipeline (grid : Grid) (position : ℕ) (stage : Stage) (stages : L
   pub elsewhere : (tile : ℕ) → IsAmong grid tile position (stage ∷ stages) ⊎ (program_of grid tile ≡ [])
   pub other_bottoms : (other : ℕ) → other < grid.puzzle.tiles.shape.columns → other ≢ position → program_of grid (bottom_of grid other) ≡ []
 
--- an order from the start: the output of the column is a prefix of what the stages make of its input, no other output has a value, the number of events is bounded, and where no event can happen the output is all that the stages make
-pub record FollowsPipeline (grid : Grid) (position : ℕ) (stages : List Stage) (events : List Event) : Type 0 where
-  pub prefix : IsPrefixOf (outs (after grid (start grid) events) position) (made_by stages (values_at grid.puzzle.inputs position))
-  pub others : (other : ℕ) → other ≢ position → outs (after grid (start grid) events) other ≡ []
+-- an order from the start, and the state that it leads to: the output of the column is a prefix of what the stages make of its input, no other output has a value, the number of events is bounded, and where no event can happen the output is all that the stages make
+pub record FollowsPipeline (grid : Grid) (position : ℕ) (stages : List Stage) (events : List Event) (end : State) : Type 0 where
+  pub prefix : IsPrefixOf (outs end position) (made_by stages (values_at grid.puzzle.inputs position))
+  pub others : (other : ℕ) → other ≢ position → outs end other ≡ []
   pub bounded : length events ≤ length grid.puzzle.tiles.kinds * most_steps stages (length (values_at grid.puzzle.inputs position))
-  pub whole : HasOutput grid.puzzle.outputs position → IsAtRest grid (after grid (start grid) events) → outs (after grid (start grid) events) position ≡ made_by stages (values_at grid.puzzle.inputs position)
+  pub whole : HasOutput grid.puzzle.outputs position → IsAtRest grid end → outs end position ≡ made_by stages (values_at grid.puzzle.inputs position)

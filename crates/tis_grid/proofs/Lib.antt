@@ -3,6 +3,7 @@ pub mod Ports
 pub mod Runs
 pub mod Acting
 pub mod Enabled
+pub mod Total
 pub mod Held
 pub mod Steps
 pub mod Fitting
@@ -11,3 +12,4 @@ pub mod Edges
 pub mod Counting
 pub mod Grids
 mod Examples
+pub mod Listed

@@ -7,18 +7,18 @@ use Rattle.tis_asm.specs.PortRuns as port
 use Rattle.tis_grid.specs.declared.event.Event.{Event}
 use Rattle.tis_grid.specs.declared.event.Event.TheVariants.{Local, Meet, In, Out, Push, Pop}
 use Rattle.tis_grid.specs.State.{Grid, IsGrid, State, node_at, stack_at, next_value}
-use Rattle.tis_grid.specs.Events.{program_of, bottom_of, IsEnabled, offered, reached, newest, after_event}
+use Rattle.tis_grid.specs.Events.{program_of, bottom_of, offered, reached, newest, after_event}
 use Rattle.tis_grid.specs.Orders.{Fits}
 use Rattle.tis_grid.specs.TileSteps.{steps_in}
 use Rattle.tis_grid.proofs.Places.{next_differs, some_columns}
 use Rattle.tis_grid.proofs.Runs.{Does}
 use Rattle.tis_grid.proofs.Acting.{acts, both_act}
-use Rattle.tis_grid.proofs.Enabled.{meeting, gives, has_node}
+use Rattle.tis_grid.proofs.Enabled.{Enables, meeting, gives, has_node}
 use Rattle.tis_grid.proofs.Held.{offered_value, next_is_value, newest_is_value}
 
 module _ (grid : Grid) (state : State) (is_grid : IsGrid grid) (fits : Fits grid state) (tile : ℕ) where
   -- what an event does to the node of a tile
-  pub event_does : (event : Event) → IsEnabled grid state event → Does (program_of grid tile) (node_at state tile) (steps_in grid state event tile) (node_at (after_event grid state event) tile)
+  pub event_does : (event : Event) → Enables grid state event → Does (program_of grid tile) (node_at state tile) (steps_in grid state event tile) (node_at (after_event grid state event) tile)
   event_does (Local at) is = acts (λ t. program_of grid t) state.nodes at.number port.Local tile (has_node grid state at.number fits is.0) is.1
   event_does (Meet at dir) is =
       let meets = meeting grid state at dir is in

@@ -3,4 +3,5 @@ pub mod State
 pub mod Events
 pub mod Orders
 pub mod TileSteps
+pub mod Choices
 pub mod Laws

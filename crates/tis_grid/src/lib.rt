@@ -6,5 +6,7 @@ mod laws;
 mod puzzle;
 
 pub use event::Event;
-pub use laws::{events_are_counted, links_pass_all, orders_are_runs, states_fit};
+pub use laws::{
+    enabled_events_are_listed, events_are_counted, links_pass_all, orders_are_runs, states_fit,
+};
 pub use puzzle::{InputAt, OutKind, OutputAt, Puzzle};
