@@ -189,8 +189,10 @@ fn a_reader_that_never_ends_is_given_up(rt: HostRuntime) {
             left,
             is_interrupted,
         };
-        let read = read_all(rt.alloc(), &mut reader).map(|bytes| bytes.len());
-        assert_eq!(rt; read, want);
+        match read_all(rt.alloc(), &mut reader) {
+            Ok(bytes) => assert_eq!(rt; Ok(bytes.len()), want),
+            Err(error) => assert_eq!(rt; Err(error), want),
+        }
     }
 }
 
