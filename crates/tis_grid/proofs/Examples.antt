@@ -1,5 +1,5 @@
 -- Worked examples of events and orders: three tiles of a column that pass values on, and a tile beside a stack.
-use Rattle.std.proofs.Common.{◌≡◌, ℕ, pos, true, false, Some, None, unwrap_or, List, [], ◌∷◌, ◌++◌, replicate, refl}
+use Rattle.std.proofs.Common.{◌≡◌, ℕ, pos, true, false, Some, None, unwrap_or, List, [], ◌∷◌, ◌++◌, length, replicate, refl}
 use Rattle.std.specs.Prelude.{is_some}
 use Rattle.tis_base.specs.declared.tiles.Dir.TheVariants.{Up, Down, Right}
 use Rattle.tis_base.specs.declared.tiles.TileKind.TheVariants.{Compute, Memory}
@@ -16,6 +16,7 @@ use Rattle.tis_grid.specs.State.{Grid, State, outs, input_left, output_taken, no
 use Rattle.tis_grid.specs.Events.{is_enabled}
 use Rattle.tis_grid.specs.Orders.{after}
 use Rattle.tis_grid.specs.Choices.{enabled_events}
+use Rattle.tis_grid.specs.Drawn.{drawn}
 
 -- a program that passes values down
 abbrev passing : List MarkedInstr
@@ -109,6 +110,17 @@ second_choice = refl
 -- when both values are out, nothing is left to happen
 at_rest : enabled_events column (end_of column closely) ≡ []
 at_rest = refl
+
+-- whatever is drawn, eight events bring both values out
+drawn_to_rest : length (drawn column (start column) 7 100) ≡ 8
+drawn_to_rest = refl
+
+drawn_gives : outs (end_of column (drawn column (start column) 7 100)) 1 ≡ pos 5 ∷ pos 7 ∷ []
+drawn_gives = refl
+
+-- with seven events at most the second value doesn't come out
+drawn_to_limit : outs (end_of column (drawn column (start column) 7 7)) 1 ≡ pos 5 ∷ []
+drawn_to_limit = refl
 
 -- ---- a stack
 

@@ -13,3 +13,4 @@ pub mod Counting
 pub mod Grids
 mod Examples
 pub mod Listed
+pub mod DrawnOrders

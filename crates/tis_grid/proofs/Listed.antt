@@ -20,7 +20,7 @@ use Rattle.tis_grid.proofs.Enabled.{Enables, enabled_parts}
 -- ---- what stands in a list
 
 -- an element stands first or behind the first
-abbrev IsIn : {X : Type 0} → X → List X → Type 0
+abbrev pub IsIn : {X : Type 0} → X → List X → Type 0
 IsIn x [] = ⊥
 IsIn x (first ∷ rest) = (first ≡ x) ⊎ IsIn x rest
 
@@ -75,7 +75,7 @@ in_filter test x (first ∷ xs) (inr later) passes =
       | false ↦ in_filter test x xs later passes
     ]
 
-passes_filter : {X : Type 0} (test : X → Bool) (x : X) (xs : List X) → IsIn x (filter test xs) → test x ≡ true
+pub passes_filter : {X : Type 0} (test : X → Bool) (x : X) (xs : List X) → IsIn x (filter test xs) → test x ≡ true
 passes_filter test x [] is = absurd is
 passes_filter test x (first ∷ xs) is =
     elim (test first) as (λ b. test first ≡ b → IsIn x (cond b (first ∷ filter test xs) (filter test xs)) → test x ≡ true) [

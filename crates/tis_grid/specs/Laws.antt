@@ -8,8 +8,9 @@ use Rattle.tis_asm.specs.PortRuns.{IsPortRun, after_steps, taken_from, given_to}
 use Rattle.tis_grid.specs.declared.event.Event.{Event}
 use Rattle.tis_grid.specs.State.{Grid, IsGrid, State, node_at, outs, start}
 use Rattle.tis_grid.specs.Events.{program_of, next_tile, bottom_of, IsEnabled, step}
-use Rattle.tis_grid.specs.Orders.{Fits, after, IsAtRest}
+use Rattle.tis_grid.specs.Orders.{Fits, after, IsLegal, IsAtRest}
 use Rattle.tis_grid.specs.Choices.{enabled_events}
+use Rattle.tis_grid.specs.Drawn.{drawn}
 use Rattle.tis_grid.specs.TileSteps.{steps_of, values_left}
 
 -- the start is a state of its grid
@@ -60,3 +61,12 @@ EnabledAreListed = (grid : Grid) (state : State) (event : Event) → IsGrid grid
 -- at rest none is listed
 abbrev pub RestListsNone : Type 0
 RestListsNone = (grid : Grid) (state : State) → IsGrid grid → IsAtRest grid state ↔ (enabled_events grid state ≡ [])
+
+-- a drawn order is legal, has no more events than it may, and fewer only where it ends at rest
+pub record IsDrawn (grid : Grid) (state : State) (most : ℕ) (events : List Event) : Type 0 where
+  pub legal : IsLegal grid state events
+  pub few : length events ≤ most
+  pub rests : length events < most → (end : State) → after grid state events ≡ Some end → IsAtRest grid end
+
+abbrev pub DrawnOrdersAreLegal : Type 0
+DrawnOrdersAreLegal = (grid : Grid) (state : State) (seed most : ℕ) → IsGrid grid → IsDrawn grid state most (drawn grid state seed most)

@@ -4,4 +4,5 @@ pub mod Events
 pub mod Orders
 pub mod TileSteps
 pub mod Choices
+pub mod Drawn
 pub mod Laws

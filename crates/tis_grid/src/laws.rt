@@ -1,5 +1,5 @@
 //! Laws of every grid, whatever its programs and whatever the order.
-ghost use Rattle.tis_grid.specs.Laws.{StartFits, OrdersKeepFitting, OrdersAreRuns, LinksPassAll, InputsPassAll, OutputsPassAll, StepsCountEvents, EnabledAreListed, RestListsNone};
+ghost use Rattle.tis_grid.specs.Laws.{StartFits, OrdersKeepFitting, OrdersAreRuns, LinksPassAll, InputsPassAll, OutputsPassAll, StepsCountEvents, EnabledAreListed, RestListsNone, DrawnOrdersAreLegal};
 
 /// The start of a grid is a state of it, and so is what a legal order leads to.
 pub fn states_fit()
@@ -30,4 +30,9 @@ pub fn events_are_counted()
 pub fn enabled_events_are_listed()
     ensures listed { EnabledAreListed }
     ensures rest { RestListsNone }
+{}
+
+/// An order that is drawn from a seed is legal, and ends before it may only at rest.
+pub fn drawn_orders_are_legal()
+    ensures drawn { DrawnOrdersAreLegal }
 {}
