@@ -12,7 +12,7 @@ use Rattle.tis_cli.specs.Compiled.{compiled}
 use Rattle.tis_cli.specs.Saves.{save_text, save_of}
 use Rattle.tis_cli.specs.Outcomes.{IsRefused, Saved, Explains}
 use Rattle.tis_cli.proofs.Columns.{net_carries}
-use Rattle.tis_cli.proofs.ColumnPrograms.{column_are_programs}
+use Rattle.tis_cli.proofs.ColumnPrograms.{column_are_programs, column_is_sound}
 use Rattle.tis_cli.proofs.SavesReadBack.{saves_read_back}
 
 -- what a store told of its texts, where it told them
@@ -33,7 +33,7 @@ refusal_explained told name text seen fetched same none texts is = (
 net_reads_back : (text : List ℕ) (net : Net) → NetOf text net → save_of (save_text (compiled net)) net.tiles ≡ Ok (compiled net)
 net_reads_back text net of =
     subst (λ (n : Net). save_of (save_text (compiled n)) n.tiles ≡ Ok (compiled n)) (sym of.net_is)
-    (saves_read_back (compiled (column_net of.column)) (record { allowed = (refl, refl); filled = refl }) (column_are_programs of.column of.is_column))
+    (saves_read_back (compiled (column_net of.column)) (record { allowed = (refl, refl); filled = refl }) (column_are_programs of.column of.is_column) (column_is_sound of.column))
 
 -- a text that was fetched and is a network is compiled: its save was kept
 pub saved_explained : (told between new : Option Texts) (name save text seen bytes : List ℕ) (net : Net) → IfSome told (λ texts. text_at texts name ≡ Some text) → seen ≡ text → NetOf seen net

@@ -12,7 +12,7 @@ pub fn processes_wait()
     ensures { ProcessesWait }
 {}
 
-/// The canonical save of a programs is read as that programs.
+/// The canonical save of a programs whose jumps stay inside is read as that programs.
 pub fn saves_read_back()
     ensures { SavesReadBack }
 {}
