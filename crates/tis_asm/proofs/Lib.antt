@@ -4,5 +4,6 @@ pub mod Texts
 pub mod Passing
 pub mod Counting
 pub mod Numbers
+pub mod CodeLines
 pub mod ReadingBack
 pub mod Examples

@@ -2,7 +2,7 @@
 use Rattle.std.specs.Prelude.{◌≡◌, ◌<◌, ℤ, List, length, Some, IsTrue}
 use Rattle.tis_base.specs.declared.tiles.Dir.{Dir}
 use Rattle.tis_asm.specs.declared.program.MarkedInstr.{MarkedInstr}
-use Rattle.tis_asm.specs.Programs.{HasValues}
+use Rattle.tis_asm.specs.Programs.{HasValues, IsSound}
 use Rattle.tis_asm.specs.Node.{Node, FitsProgram, fresh, can_local, wants, offers}
 use Rattle.tis_asm.specs.PortRuns.{Step, IsStep, after_step}
 
@@ -20,6 +20,6 @@ NodesGoOn = (program : List MarkedInstr) (node : Node) → 0 < length program �
 abbrev pub FreshFits : Type 0
 FreshFits = (program : List MarkedInstr) → FitsProgram program fresh
 
--- a step leads from a node of a program to one of it
+-- a step leads from a node of a program to one of it, where each jump goes to an instruction of the program
 abbrev pub StepsKeepFitting : Type 0
-StepsKeepFitting = (program : List MarkedInstr) (node : Node) (step : Step) → HasValues program → FitsProgram program node → IsStep program node step → FitsProgram program (after_step program node step)
+StepsKeepFitting = (program : List MarkedInstr) (node : Node) (step : Step) → HasValues program → IsSound program → FitsProgram program node → IsStep program node step → FitsProgram program (after_step program node step)

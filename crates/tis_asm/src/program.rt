@@ -2,6 +2,7 @@
 ghost use Rattle.std.specs.Prelude.{◌≡◌, ◌<◌, ◌↔◌, [], ◌∷◌, ◌++◌, length, slice_get, option_map, Some, IsTrue, ◌≤◌};
 ghost use Rattle.std.specs.Bool.{OnTrue, OnFalse};
 ghost use Rattle.tis_asm.specs.Programs.{HasValues};
+ghost use Rattle.tis_asm.specs.Code.{is_target};
 
 use crate::instr::Instr;
 use arrayvec::ArrayVec;
@@ -83,6 +84,15 @@ impl Program {
         ensures { option_map (λ marked. marked.mark) (slice_get self.now index) ≡ Some result }
     {
         self.marked_instr(index).mark
+    }
+
+    // Whether some jump goes to the instruction with a number from 0 on.
+    pub(crate) fn is_target(&self, number: u8) -> bool
+        ensures { result ≡ is_target self.now number }
+    {
+        self.instrs
+            .iter()
+            .any(|marked| marked.instr.jumps_to(number))
     }
 
     /// One more instruction at the end, with a mark or without one. False, and the program stays as

@@ -14,7 +14,7 @@ use Rattle.tis_cli.specs.Compiled.{compiled}
 use Rattle.tis_cli.specs.Saves.{save_text, save_of}
 use Rattle.tis_cli.specs.Outcomes.{texts_under, with_first, Outside, IsRefused, IsDone, Explains}
 use Rattle.tis_cli.proofs.Columns.{net_carries}
-use Rattle.tis_cli.proofs.ColumnPrograms.{column_are_programs}
+use Rattle.tis_cli.proofs.ColumnPrograms.{column_are_programs, column_is_sound}
 use Rattle.tis_cli.proofs.SavesReadBack.{saves_read_back}
 
 -- what a store told of its texts, where it told them
@@ -34,7 +34,7 @@ one_missing texts name none = ap (λ (first : Option (List ℕ)). with_first fir
 net_reads_back : (text : List ℕ) (net : Net) → NetOf text net → save_of (save_text (compiled net)) net.tiles ≡ Ok (compiled net)
 net_reads_back text net of =
     subst (λ (n : Net). save_of (save_text (compiled n)) n.tiles ≡ Ok (compiled n)) (sym of.net_is)
-    (saves_read_back (compiled (column_net of.column)) (record { allowed = (refl, refl); filled = refl }) (column_are_programs of.column of.is_column))
+    (saves_read_back (compiled (column_net of.column)) (record { allowed = (refl, refl); filled = refl }) (column_are_programs of.column of.is_column) (column_is_sound of.column))
 
 -- the save of a network is all that is promised of it
 compiled_as_promised : (text bytes : List ℕ) (net : Net) → NetOf text net → bytes ≡ save_text (compiled net) → IsCompiled (text ∷ []) bytes

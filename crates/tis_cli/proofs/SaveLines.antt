@@ -1,5 +1,5 @@
 -- The lines of a save: for each tile with a program its head, its code and an empty line.
-use Rattle.std.proofs.Common.{◌≡◌, ℕ, ◌+◌, ◌%◌, ◌^◌, ◌<◌, ◌≤◌, Bool, true, false, cond, List, [], ◌∷◌, ◌++◌, length, map, take, count_by, refl, sym, ap, subst, ◌∙◌, inl, inr, arith}
+use Rattle.std.proofs.Common.{◌≡◌, ℕ, ◌+◌, ◌%◌, ◌^◌, ◌<◌, ◌≤◌, Bool, true, false, cond, List, [], ◌∷◌, ◌++◌, length, take, count_by, refl, sym, ap, subst, ◌∙◌, inl, inr, arith}
 use Rattle.std.specs.Prelude.{flat_map, decimal, not}
 use Rattle.std.specs.List.{list_all}
 use Rattle.std.proofs.lemmas.Bool.{true≢false, cases_Bool, and_from, ne_eqb}
@@ -12,10 +12,11 @@ use Rattle.tis_base.specs.Tiles.{Tiles, is_compute, block_of}
 use Rattle.tis_base.specs.declared.tiles.TileKind.TheVariants.{Compute, Damaged}
 use Rattle.tis_base.proofs.TextLines.{is_plain_byte, is_plain_line, list_all-join, text_lines-text_of_lines, text_of_lines-append}
 use Rattle.tis_asm.specs.declared.instr.Instr.{Instr}
-use Rattle.tis_asm.specs.declared.instr.Instr.TheVariants.{Mov, Add, Sub, Neg}
+use Rattle.tis_asm.specs.declared.instr.Instr.TheVariants.{Nop, Mov, Swp, Sav, Add, Sub, Neg, Jump, Jro}
+use Rattle.tis_asm.specs.declared.instr.Jump.TheVariants as jumps
 use Rattle.tis_asm.specs.declared.program.MarkedInstr.{MarkedInstr}
-use Rattle.tis_asm.specs.Programs.{Programs, ArePrograms, HasValues, program_at}
-use Rattle.tis_asm.specs.Code.{line_text}
+use Rattle.tis_asm.specs.Programs.{Programs, ArePrograms, HasValues, IsSound, program_at}
+use Rattle.tis_asm.specs.Code.{label_text, mark_text, instr_text, is_target, line_text, lines_from, code_lines}
 use Rattle.tis_asm.proofs.ReadingBack.{program_is_plain}
 use Rattle.tis_cli.specs.Saves.{head_of, block_text, tile_text, is_head, computes}
 
@@ -24,12 +25,12 @@ use Rattle.tis_cli.specs.Saves.{head_of, block_text, tile_text, is_head, compute
 -- the lines below the head: the code and an empty line
 abbrev pub body_of : List MarkedInstr → List (List ℕ)
 body_of [] = []
-body_of (line ∷ program) = map line_text (line ∷ program) ++ [] ∷ []
+body_of (line ∷ program) = code_lines (line ∷ program) ++ [] ∷ []
 
 -- the lines of a block
 abbrev pub section_of : List ℕ → List MarkedInstr → List (List ℕ)
 section_of head [] = []
-section_of head (line ∷ program) = head ∷ (map line_text (line ∷ program) ++ [] ∷ [])
+section_of head (line ∷ program) = head ∷ (code_lines (line ∷ program) ++ [] ∷ [])
 
 -- the lines of the block of a tile
 abbrev pub tile_section : Programs → ℕ → List (List ℕ)
@@ -38,7 +39,7 @@ tile_section programs tile = section_of (head_of programs.tiles tile) (program_a
 -- the text of a block is that of its lines
 section-text : (head : List ℕ) (program : List MarkedInstr) → block_text head program ≡ text_of_lines (section_of head program)
 section-text head [] = refl
-section-text head (line ∷ program) = ap (λ (text : List ℕ). head ++ 10 ∷ text) (sym (text_of_lines-append (map line_text (line ∷ program)) ([] ∷ [])))
+section-text head (line ∷ program) = ap (λ (text : List ℕ). head ++ 10 ∷ text) (sym (text_of_lines-append (code_lines (line ∷ program)) ([] ∷ [])))
 
 -- the text of the blocks is that of their lines
 pub sections-text : (programs : Programs) (tiles : List ℕ) → flat_map (tile_text programs) tiles ≡ text_of_lines (flat_map (tile_section programs) tiles)
@@ -54,22 +55,36 @@ sections-text programs (tile ∷ tiles) =
 abbrev pub is_code : List ℕ → Bool
 is_code line = not (is_head line)
 
--- a line of a program isn't a head, marked or not
-marked_is_code : (mark : Bool) (instr : Instr) → is_code (line_text (record { instr = instr; mark = mark })) ≡ true
+-- a line of a program isn't a head, with a label or a mark or neither
+marked_is_code : (mark : Bool) (instr : Instr) → is_code (mark_text mark ++ instr_text instr) ≡ true
 marked_is_code true instr = refl
+marked_is_code false Nop = refl
 marked_is_code false (Mov source dest) = refl
+marked_is_code false Swp = refl
+marked_is_code false Sav = refl
 marked_is_code false (Add source) = refl
 marked_is_code false (Sub source) = refl
 marked_is_code false Neg = refl
+marked_is_code false (Jump jumps.Always number) = refl
+marked_is_code false (Jump jumps.IfZero number) = refl
+marked_is_code false (Jump jumps.IfNotZero number) = refl
+marked_is_code false (Jump jumps.IfPositive number) = refl
+marked_is_code false (Jump jumps.IfNegative number) = refl
+marked_is_code false (Jro source) = refl
 
--- so no line of a program is one
-program_is_code : (program : List MarkedInstr) → list_all is_code (map line_text program) ≡ true
-program_is_code [] = refl
-program_is_code (line ∷ program) = and_from (is_code (line_text line)) (list_all is_code (map line_text program)) (marked_is_code line.mark line.instr) (program_is_code program)
+labelled_is_code : (labelled : Bool) (number : ℕ) (mark : Bool) (instr : Instr) → is_code (label_text labelled number ++ mark_text mark ++ instr_text instr) ≡ true
+labelled_is_code true number mark instr = refl
+labelled_is_code false number mark instr = marked_is_code mark instr
+
+-- no line of a program is
+program_is_code : (whole rest : List MarkedInstr) (number : ℕ) → list_all is_code (lines_from whole number rest) ≡ true
+program_is_code whole [] number = refl
+program_is_code whole (marked ∷ rest) number =
+    and_from (is_code (line_text whole number marked)) (list_all is_code (lines_from whole (number + 1) rest)) (labelled_is_code (is_target whole number) number marked.mark marked.instr) (program_is_code whole rest (number + 1))
 
 -- no line of a block is a head but the first
-pub body_is_code : (line : MarkedInstr) (program : List MarkedInstr) → list_all is_code (map line_text (line ∷ program) ++ [] ∷ []) ≡ true
-body_is_code line program = list_all-join is_code (map line_text (line ∷ program)) ([] ∷ []) (program_is_code (line ∷ program)) refl
+pub body_is_code : (line : MarkedInstr) (program : List MarkedInstr) → list_all is_code (code_lines (line ∷ program) ++ [] ∷ []) ≡ true
+body_is_code line program = list_all-join is_code (code_lines (line ∷ program)) ([] ∷ []) (program_is_code (line ∷ program) (line ∷ program) 0) refl
 
 -- ---- the numbers of the blocks
 
@@ -119,19 +134,19 @@ decimal_is_plain =
     (λ number digits le plain. list_all-join is_plain_byte digits ((48 + number % 10) ∷ []) plain (digit_is_plain (number % 10)))
 
 -- nor in a block
-section_is_plain : (head : List ℕ) (program : List MarkedInstr) → HasValues program → is_plain_line head ≡ true → list_all is_plain_line (section_of head program) ≡ true
-section_is_plain head [] are plain = refl
-section_is_plain head (line ∷ program) are plain =
-    and_from (is_plain_line head) (list_all is_plain_line (map line_text (line ∷ program) ++ [] ∷ [])) plain (list_all-join is_plain_line (map line_text (line ∷ program)) ([] ∷ []) (program_is_plain (line ∷ program) are) refl)
+section_is_plain : (head : List ℕ) (program : List MarkedInstr) → length program ≤ 15 → HasValues program → IsSound program → is_plain_line head ≡ true → list_all is_plain_line (section_of head program) ≡ true
+section_is_plain head [] few are sound plain = refl
+section_is_plain head (line ∷ program) few are sound plain =
+    and_from (is_plain_line head) (list_all is_plain_line (code_lines (line ∷ program) ++ [] ∷ [])) plain (list_all-join is_plain_line (code_lines (line ∷ program)) ([] ∷ []) (program_is_plain (line ∷ program) few are sound) refl)
 
 -- nor in all blocks
-sections_are_plain : (programs : Programs) (tiles : List ℕ) → ((tile : ℕ) → HasValues (program_at programs.programs tile)) → length programs.tiles.kinds < 2 ^ 64 → list_all is_plain_line (flat_map (tile_section programs) tiles) ≡ true
-sections_are_plain programs [] are small = refl
-sections_are_plain programs (tile ∷ tiles) are small =
+sections_are_plain : (programs : Programs) (tiles : List ℕ) → ArePrograms programs → ((tile : ℕ) → IsSound (program_at programs.programs tile)) → length programs.tiles.kinds < 2 ^ 64 → list_all is_plain_line (flat_map (tile_section programs) tiles) ≡ true
+sections_are_plain programs [] is sound small = refl
+sections_are_plain programs (tile ∷ tiles) is sound small =
     list_all-join is_plain_line (tile_section programs tile) (flat_map (tile_section programs) tiles)
-    (section_is_plain (head_of programs.tiles tile) (program_at programs.programs tile) (are tile) (decimal_is_plain (block_of programs.tiles tile) (block_is_small programs.tiles tile small)))
-    (sections_are_plain programs tiles are small)
+    (section_is_plain (head_of programs.tiles tile) (program_at programs.programs tile) (is.short tile) (is.values tile) (sound tile) (decimal_is_plain (block_of programs.tiles tile) (block_is_small programs.tiles tile small)))
+    (sections_are_plain programs tiles is sound small)
 
 -- the lines of the text of the blocks
-pub sections-lines : (programs : Programs) (tiles : List ℕ) → ((tile : ℕ) → HasValues (program_at programs.programs tile)) → length programs.tiles.kinds < 2 ^ 64 → text_lines (flat_map (tile_text programs) tiles) ≡ flat_map (tile_section programs) tiles
-sections-lines programs tiles are small = ap text_lines (sections-text programs tiles) ∙ text_lines-text_of_lines (flat_map (tile_section programs) tiles) (sections_are_plain programs tiles are small)
+pub sections-lines : (programs : Programs) (tiles : List ℕ) → ArePrograms programs → ((tile : ℕ) → IsSound (program_at programs.programs tile)) → length programs.tiles.kinds < 2 ^ 64 → text_lines (flat_map (tile_text programs) tiles) ≡ flat_map (tile_section programs) tiles
+sections-lines programs tiles is sound small = ap text_lines (sections-text programs tiles) ∙ text_lines-text_of_lines (flat_map (tile_section programs) tiles) (sections_are_plain programs tiles is sound small)

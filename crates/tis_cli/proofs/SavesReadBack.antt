@@ -13,8 +13,8 @@ use Rattle.std.proofs.lemmas.Slice.Eq.{bytes_eq-Decides}
 use Rattle.tis_base.proofs.TextLines.{not_is}
 use Rattle.tis_base.specs.Tiles.{Tiles, block_of}
 use Rattle.tis_asm.specs.declared.program.MarkedInstr.{MarkedInstr}
-use Rattle.tis_asm.specs.Programs.{Programs, ArePrograms, HasValues, program_at}
-use Rattle.tis_asm.specs.Code.{line_text}
+use Rattle.tis_asm.specs.Programs.{Programs, ArePrograms, HasValues, IsSound, program_at}
+use Rattle.tis_asm.specs.Code.{code_lines}
 use Rattle.tis_asm.specs.Assembling.{is_blank, assembled_lines}
 use Rattle.tis_asm.proofs.ReadingBack.{lines_read_back}
 use Rattle.tis_cli.specs.Saves.{SaveRefusal, StrayCode, head_of, save_text, is_head, computes, is_head_on, head_fault, code_fault, line_fault, first_fault, block_lines, in_block, tile_program, with_program, programs_of, programs_read, save_of_lines, save_of, SavesReadBack}
@@ -54,29 +54,29 @@ take_while-code (line ∷ code) rest all =
 ends_at_section : (head : List ℕ) (program : List MarkedInstr) (rest : List (List ℕ)) → is_head head ≡ true → take_while is_code rest ≡ [] → take_while is_code (section_of head program ++ rest) ≡ []
 ends_at_section head [] rest is ends = ends
 ends_at_section head (line ∷ program) rest is ends =
-    take_while-cons is_code head ((map line_text (line ∷ program) ++ [] ∷ []) ++ rest) ∙ ap (λ (b : Bool). cond (not b) (head ∷ take_while is_code ((map line_text (line ∷ program) ++ [] ∷ []) ++ rest)) []) is
+    take_while-cons is_code head ((code_lines (line ∷ program) ++ [] ∷ []) ++ rest) ∙ ap (λ (b : Bool). cond (not b) (head ∷ take_while is_code ((code_lines (line ∷ program) ++ [] ∷ []) ++ rest)) []) is
 
 -- a block under another head is passed over
 skip_section : (head other : List ℕ) (program : List MarkedInstr) (rest : List (List ℕ)) → is_head head ≡ true → ((line : MarkedInstr) (others : List MarkedInstr) → program ≡ line ∷ others → other ≡ head → ⊥) →
     block_lines head (section_of other program ++ rest) ≡ block_lines head rest
 skip_section head other [] rest is differ = refl
 skip_section head other (line ∷ program) rest is differ =
-    ap (λ (same : Bool). cond same (take_while is_code ((map line_text (line ∷ program) ++ [] ∷ []) ++ rest)) (block_lines head ((map line_text (line ∷ program) ++ [] ∷ []) ++ rest))) (not_alike other head (differ line program refl))
-    ∙ skip_code head (map line_text (line ∷ program) ++ [] ∷ []) rest is (body_is_code line program)
+    ap (λ (same : Bool). cond same (take_while is_code ((code_lines (line ∷ program) ++ [] ∷ []) ++ rest)) (block_lines head ((code_lines (line ∷ program) ++ [] ∷ []) ++ rest))) (not_alike other head (differ line program refl))
+    ∙ skip_code head (code_lines (line ∷ program) ++ [] ∷ []) rest is (body_is_code line program)
 
 -- a block under this head is found whole
 find_section : (head : List ℕ) (program : List MarkedInstr) (rest : List (List ℕ)) → block_lines head rest ≡ [] → take_while is_code rest ≡ [] → block_lines head (section_of head program ++ rest) ≡ body_of program
 find_section head [] rest absent ends = absent
 find_section head (line ∷ program) rest absent ends =
-    ap (λ (same : Bool). cond same (take_while is_code ((map line_text (line ∷ program) ++ [] ∷ []) ++ rest)) (block_lines head ((map line_text (line ∷ program) ++ [] ∷ []) ++ rest))) ((bytes_eq-Decides head head).1 refl)
-    ∙ take_while-code (map line_text (line ∷ program) ++ [] ∷ []) rest (body_is_code line program)
-    ∙ ap (λ (lines : List (List ℕ)). (map line_text (line ∷ program) ++ [] ∷ []) ++ lines) ends
-    ∙ append-nil (map line_text (line ∷ program) ++ [] ∷ [])
+    ap (λ (same : Bool). cond same (take_while is_code ((code_lines (line ∷ program) ++ [] ∷ []) ++ rest)) (block_lines head ((code_lines (line ∷ program) ++ [] ∷ []) ++ rest))) ((bytes_eq-Decides head head).1 refl)
+    ∙ take_while-code (code_lines (line ∷ program) ++ [] ∷ []) rest (body_is_code line program)
+    ∙ ap (λ (lines : List (List ℕ)). (code_lines (line ∷ program) ++ [] ∷ []) ++ lines) ends
+    ∙ append-nil (code_lines (line ∷ program) ++ [] ∷ [])
 
 -- what stands below a head is read as the program
-body-read : (program : List MarkedInstr) → length program ≤ 15 → HasValues program → assembled_lines (body_of program) ≡ Ok program
-body-read [] few are = refl
-body-read (line ∷ program) few are = lines_read_back (line ∷ program) ([] ∷ []) few are refl
+body-read : (program : List MarkedInstr) → length program ≤ 15 → HasValues program → IsSound program → assembled_lines (body_of program) ≡ Ok program
+body-read [] few are sound = refl
+body-read (line ∷ program) few are sound = lines_read_back (line ∷ program) ([] ∷ []) few are sound refl
 
 -- nothing is wrong with code below a head
 code_is_right : (tiles : Tiles) (above code rest : List (List ℕ)) → list_any is_head above ≡ true → list_all is_code code ≡ true → first_fault tiles above (code ++ rest) ≡ first_fault tiles (above ++ code) rest
@@ -101,7 +101,7 @@ head_is_right tiles above number tile inside computing fresh = rw (is_head_on-he
 
 -- ---- the blocks of all tiles
 
-module _ (programs : Programs) (small : length programs.tiles.kinds < 2 ^ 64) (is : ArePrograms programs) where
+module _ (programs : Programs) (small : length programs.tiles.kinds < 2 ^ 64) (is : ArePrograms programs) (sound : (tile : ℕ) → IsSound (program_at programs.programs tile)) where
   -- the lines of the blocks of so many tiles from this one on
   abbrev lines_from : ℕ → ℕ → List (List ℕ)
   lines_from start count = flat_map (tile_section programs) (range_with_len start count)
@@ -158,14 +158,14 @@ module _ (programs : Programs) (small : length programs.tiles.kinds < 2 ^ 64) (i
 
   -- below one more block none stands above of the heads that follow
   still_fresh : (start : ℕ) (above : List (List ℕ)) (line : MarkedInstr) (program : List MarkedInstr) → start < length programs.tiles.kinds → computes programs.tiles start ≡ true → AreFresh start above →
-      AreFresh (start + 1) ((above ++ head_at start ∷ []) ++ (map line_text (line ∷ program) ++ [] ∷ []))
+      AreFresh (start + 1) ((above ++ head_at start ∷ []) ++ (code_lines (line ∷ program) ++ [] ∷ []))
   still_fresh start above line program start_inside start_computes fresh tile later inside computing =
-      list_any-append (bytes_eq (head_at tile)) (above ++ head_at start ∷ []) (map line_text (line ∷ program) ++ [] ∷ [])
-      ∙ or_from (list_any (bytes_eq (head_at tile)) (above ++ head_at start ∷ [])) (list_any (bytes_eq (head_at tile)) (map line_text (line ∷ program) ++ [] ∷ []))
+      list_any-append (bytes_eq (head_at tile)) (above ++ head_at start ∷ []) (code_lines (line ∷ program) ++ [] ∷ [])
+      ∙ or_from (list_any (bytes_eq (head_at tile)) (above ++ head_at start ∷ [])) (list_any (bytes_eq (head_at tile)) (code_lines (line ∷ program) ++ [] ∷ []))
       (list_any-append (bytes_eq (head_at tile)) above (head_at start ∷ [])
       ∙ or_from (list_any (bytes_eq (head_at tile)) above) (list_any (bytes_eq (head_at tile)) (head_at start ∷ [])) (fresh tile (omega arith) inside computing)
       (or_from (bytes_eq (head_at tile) (head_at start)) false (not_alike (head_at tile) (head_at start) (apart tile start inside start_inside computing start_computes (λ e. omega arith))) refl))
-      (no_head_in_code (head_at tile) (map line_text (line ∷ program) ++ [] ∷ []) refl (body_is_code line program))
+      (no_head_in_code (head_at tile) (code_lines (line ∷ program) ++ [] ∷ []) refl (body_is_code line program))
 
   -- nothing is wrong with the lines of a block, below others
   section_is_right : (start : ℕ) (program : List MarkedInstr) (above rest : List (List ℕ)) → code_at start ≡ program → start < length programs.tiles.kinds → AreFresh start above →
@@ -173,10 +173,10 @@ module _ (programs : Programs) (small : length programs.tiles.kinds < 2 ^ 64) (i
   section_is_right start [] above rest has inside fresh goes_on = goes_on above (λ tile low. fresh tile (omega arith))
   section_is_right start (line ∷ program) above rest has inside fresh goes_on =
       let computing : computes programs.tiles start ≡ true = has_program programs is start line program has in
-      ap (λ (fault : Option SaveRefusal). option_or fault (first_fault programs.tiles (above ++ head_at start ∷ []) ((map line_text (line ∷ program) ++ [] ∷ []) ++ rest)))
+      ap (λ (fault : Option SaveRefusal). option_or fault (first_fault programs.tiles (above ++ head_at start ∷ []) ((code_lines (line ∷ program) ++ [] ∷ []) ++ rest)))
       (head_is_right programs.tiles above (length above + 1) start inside computing (fresh start (omega arith) inside computing))
-      ∙ code_is_right programs.tiles (above ++ head_at start ∷ []) (map line_text (line ∷ program) ++ [] ∷ []) rest (list_any-append is_head above (head_at start ∷ []) ∙ or_right (list_any is_head above) true refl) (body_is_code line program)
-      ∙ goes_on ((above ++ head_at start ∷ []) ++ (map line_text (line ∷ program) ++ [] ∷ [])) (still_fresh start above line program inside computing fresh)
+      ∙ code_is_right programs.tiles (above ++ head_at start ∷ []) (code_lines (line ∷ program) ++ [] ∷ []) rest (list_any-append is_head above (head_at start ∷ []) ∙ or_right (list_any is_head above) true refl) (body_is_code line program)
+      ∙ goes_on ((above ++ head_at start ∷ []) ++ (code_lines (line ∷ program) ++ [] ∷ [])) (still_fresh start above line program inside computing fresh)
 
   -- nothing is wrong with the lines of a save
   lines_are_right : (start count : ℕ) (above : List (List ℕ)) → start + count ≤ length programs.tiles.kinds → AreFresh start above → first_fault programs.tiles above (lines_from start count) ≡ None
@@ -194,7 +194,7 @@ module _ (programs : Programs) (small : length programs.tiles.kinds < 2 ^ 64) (i
       elim (cases_Bool (computes programs.tiles tile)) [
         | inl computing ↦
             ap (λ (b : Bool). cond b (in_block (block_of programs.tiles tile) (assembled_lines (block_lines (head_at tile) all_lines))) (Ok [])) computing
-            ∙ ap (in_block (block_of programs.tiles tile)) (ap assembled_lines (each_block tile 0 (length programs.tiles.kinds) (omega arith) (omega arith) (omega arith) computing) ∙ body-read (code_at tile) (is.short tile) (is.values tile))
+            ∙ ap (in_block (block_of programs.tiles tile)) (ap assembled_lines (each_block tile 0 (length programs.tiles.kinds) (omega arith) (omega arith) (omega arith) computing) ∙ body-read (code_at tile) (is.short tile) (is.values tile) (sound tile))
         | inr resting ↦
             ap (λ (b : Bool). cond b (in_block (block_of programs.tiles tile) (assembled_lines (block_lines (head_at tile) all_lines))) (Ok [])) resting
             ∙ ap (λ (program : List MarkedInstr). Ok program) (sym (no_program programs is tile resting))
@@ -223,8 +223,8 @@ module _ (programs : Programs) (small : length programs.tiles.kinds < 2 ^ 64) (i
   -- the text of a save is read as the programs
   pub save-read : save_of (save_text programs) programs.tiles ≡ Ok programs
   unfolding save_of
-  save-read = ap (λ (lines : List (List ℕ)). save_of_lines lines programs.tiles) (sections-lines programs (range_with_len 0 (length programs.tiles.kinds)) is.values small) ∙ all_lines-read
+  save-read = ap (λ (lines : List (List ℕ)). save_of_lines lines programs.tiles) (sections-lines programs (range_with_len 0 (length programs.tiles.kinds)) is sound small) ∙ all_lines-read
 
--- the canonical save of programs is read as these programs
+-- the canonical save of programs whose jumps stay inside is read as these programs
 pub saves_read_back : SavesReadBack
-saves_read_back programs board is = save-read programs (omega (arith, board.filled, ap (λ (columns : ℕ). columns * programs.tiles.shape.rows) board.allowed.0, ap (λ (rows : ℕ). 4 * rows) board.allowed.1)) is
+saves_read_back programs board is sound = save-read programs (omega (arith, board.filled, ap (λ (columns : ℕ). columns * programs.tiles.shape.rows) board.allowed.0, ap (λ (rows : ℕ). 4 * rows) board.allowed.1)) is sound

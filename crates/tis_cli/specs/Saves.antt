@@ -7,7 +7,7 @@ use Rattle.tis_base.specs.declared.tiles.TileKind.TheVariants.{Damaged}
 use Rattle.tis_base.specs.Lines.{text_lines}
 use Rattle.tis_base.specs.Tiles.{Tiles, AreTiles, is_compute, block_of}
 use Rattle.tis_asm.specs.declared.program.MarkedInstr.{MarkedInstr}
-use Rattle.tis_asm.specs.Programs.{Programs, ArePrograms, program_at}
+use Rattle.tis_asm.specs.Programs.{Programs, ArePrograms, IsSound, program_at}
 use Rattle.tis_asm.specs.Code.{code_text}
 use Rattle.tis_asm.specs.Assembling.{AsmRefusal, is_blank, assembled_lines}
 
@@ -113,6 +113,6 @@ save_of text tiles = save_of_lines (text_lines text) tiles
 
 -- ---- both
 
--- the canonical save of programs is read as these programs
+-- the canonical save of programs whose jumps stay inside is read as these programs
 abbrev pub SavesReadBack : Type 0
-SavesReadBack = (programs : Programs) → AreTiles programs.tiles.shape programs.tiles.kinds → ArePrograms programs → save_of (save_text programs) programs.tiles ≡ Ok programs
+SavesReadBack = (programs : Programs) → AreTiles programs.tiles.shape programs.tiles.kinds → ArePrograms programs → ((tile : ℕ) → IsSound (program_at programs.programs tile)) → save_of (save_text programs) programs.tiles ≡ Ok programs

@@ -21,7 +21,7 @@ pub fn steps_are_bounded()
     ensures limits { StepsWithinLimits }
 {}
 
-/// The canonical save of programs is read as these programs.
+/// The canonical save of programs whose jumps stay inside is read as these programs.
 pub fn saves_read_back()
     ensures { SavesReadBack }
 {}

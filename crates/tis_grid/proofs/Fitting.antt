@@ -221,7 +221,7 @@ module _ (grid : Grid) (state : State) where
         outs = outs_kept event ∙ fits.outs;
         inputs = inputs_kept fits event is;
         outputs = outputs_kept fits event is;
-        each = λ tile. does_fit (program_of grid tile) (node_at state tile) (steps_in grid state event tile) (node_at (after_event grid state event) tile) (is_grid.programs.values tile) (fits.each tile) (event_does grid state is_grid fits tile event is);
+        each = λ tile. does_fit (program_of grid tile) (node_at state tile) (steps_in grid state event tile) (node_at (after_event grid state event) tile) (is_grid.programs.values tile) (is_grid.sound tile) (fits.each tile) (event_does grid state is_grid fits tile event is);
         within = λ position. omega (arith, left_falls event position, fits.within position);
         room = room_kept event is fits.room;
         values = values_kept fits event is;

@@ -1,7 +1,7 @@
 -- Steps of one node, and the node that they lead to.
 use Rattle.std.proofs.Common.{◌≡◌, List, [], ◌∷◌, ◌++◌, refl, sym, subst}
 use Rattle.tis_asm.specs.declared.program.MarkedInstr.{MarkedInstr}
-use Rattle.tis_asm.specs.Programs.{HasValues}
+use Rattle.tis_asm.specs.Programs.{HasValues, IsSound}
 use Rattle.tis_asm.specs.Node.{Node, FitsProgram}
 use Rattle.tis_asm.specs.PortRuns.{Step, IsStep, after_step, IsPortRun, after_steps}
 use Rattle.tis_asm.proofs.Progress.{steps_keep_fitting}
@@ -29,10 +29,10 @@ does_then program node (step ∷ steps) more middle after first second =
 -- ---- a node of its program stays one
 
 -- after each of several steps the node is still one of its program
-steps_fit : (program : List MarkedInstr) (node : Node) (steps : List Step) → HasValues program → FitsProgram program node → IsPortRun program node steps → FitsProgram program (after_steps program node steps)
-steps_fit program node [] are fits run = fits
-steps_fit program node (step ∷ steps) are fits run = steps_fit program (after_step program node step) steps are (steps_keep_fitting program node step are fits run.0) run.1
+steps_fit : (program : List MarkedInstr) (node : Node) (steps : List Step) → HasValues program → IsSound program → FitsProgram program node → IsPortRun program node steps → FitsProgram program (after_steps program node steps)
+steps_fit program node [] are sound fits run = fits
+steps_fit program node (step ∷ steps) are sound fits run = steps_fit program (after_step program node step) steps are sound (steps_keep_fitting program node step are sound fits run.0) run.1
 
 -- the node that steps lead to is one of the program
-pub does_fit : (program : List MarkedInstr) (node : Node) (steps : List Step) (after : Node) → HasValues program → FitsProgram program node → Does program node steps after → FitsProgram program after
-does_fit program node steps after are fits does = subst (λ end. FitsProgram program end) does.leads (steps_fit program node steps are fits does.run)
+pub does_fit : (program : List MarkedInstr) (node : Node) (steps : List Step) (after : Node) → HasValues program → IsSound program → FitsProgram program node → Does program node steps after → FitsProgram program after
+does_fit program node steps after are sound fits does = subst (λ end. FitsProgram program end) does.leads (steps_fit program node steps are sound fits does.run)

@@ -2,7 +2,7 @@
 use Rattle.std.specs.Prelude.{ℕ, ◌-◌, ℤ, pos, List, [], length, map, replicate, get_or, Option, Some, None, unwrap_or, if◌then◌else◌}
 use Rattle.std.specs.List.{range_with_len}
 use Rattle.tis_asm.specs.declared.program.MarkedInstr.{MarkedInstr}
-use Rattle.tis_asm.specs.Programs.{ArePrograms}
+use Rattle.tis_asm.specs.Programs.{ArePrograms, IsSound, program_at}
 use Rattle.tis_asm.specs.Node.{Node, fresh}
 use Rattle.tis_grid.specs.Puzzle.{Puzzle, IsPuzzle, values_at, has_input, has_output}
 
@@ -11,10 +11,11 @@ pub record Grid : Type 0 where
   pub puzzle : Puzzle
   pub programs : List (List MarkedInstr)
 
--- the puzzle is one, and the programs are for its tiles
+-- the puzzle is one, the programs are for its tiles, and each of their jumps goes to an instruction of its program
 pub record IsGrid (grid : Grid) : Type 0 where
   pub puzzle : IsPuzzle grid.puzzle
   pub programs : ArePrograms (record { tiles = grid.puzzle.tiles; programs = grid.programs })
+  pub sound : (tile : ℕ) → IsSound (program_at grid.programs tile)
 
 -- the nodes and the stacks by tile; by position, how many values of the input there are left, and what the output there has taken, where one stands
 pub record State : Type 0 where
