@@ -12,10 +12,10 @@
 //! # What the crates above use
 //!
 //! A `Value` is never outside of its range, and a sum or a difference is held at its ends. Each item of a
-//! `Values` is a value. A store and a sink count their own answers: a fault is answered exactly where the
-//! count of faults rose, a name is missing exactly where the count of misses did, and each count stays with
-//! every other answer. Where a store tells its texts, `fetch` gives the text under the name and `keep`
-//! changes that name alone or, where it fails, nothing.
+//! `Values` is a value. A store and a sink count their own answers: with a fault the count of faults rises, with
+//! a name that isn't there that of misses, up to 2^64 - 1, and each stays with every other answer. Where a
+//! store tells its texts, `fetch` gives the text under the name, and `keep` changes that name alone or, where
+//! it fails, nothing.
 //!
 //! # An example
 //!
