@@ -9,7 +9,7 @@ use Rattle.std.proofs.lemmas.Fmt.{decimal_by_steps, length-decimal-le}
 use Rattle.std.proofs.lemmas.Int.{ints}
 use Rattle.tis_base.specs.Saturation.{sat, IsValue}
 use Rattle.tis_base.proofs.Saturating.{sat_value}
-use Rattle.tis_base.proofs.TextLines.{is_plain_byte, list_all-join}
+use Rattle.tis_base.proofs.WrittenLines.{is_plain_byte, list_all-join}
 use Rattle.tis_asm.specs.declared.instr.Source.TheVariants as from
 use Rattle.tis_asm.specs.Assembling.{is_gap, is_filled, is_label_byte, is_digit, digits_number, number_of_word, source_of_word}
 

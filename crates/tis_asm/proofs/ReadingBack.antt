@@ -9,7 +9,7 @@ use Rattle.std.proofs.lemmas.List.Folds.{list_any-append}
 use Rattle.std.proofs.lemmas.Slice.Eq.{bytes_eq-Decides}
 use Rattle.std.proofs.lemmas.Fmt.{decimal_injective}
 use Rattle.tis_base.specs.Lines.{pieces_where}
-use Rattle.tis_base.proofs.TextLines.{is_plain_line, list_all-join, pieces-first, pieces-last, text_lines-text_of_lines}
+use Rattle.tis_base.proofs.WrittenLines.{is_plain_line, list_all-join, pieces-first, pieces-last, text_lines-text_of_lines}
 use Rattle.tis_asm.specs.declared.instr.Instr.{Instr}
 use Rattle.tis_asm.specs.declared.instr.Instr.TheVariants.{Nop, Mov, Swp, Sav, Add, Sub, Neg, Jump, Jro}
 use Rattle.tis_asm.specs.declared.instr.Jump.{Jump as JumpKind}

@@ -2,7 +2,7 @@ use crate::transfer::{read_all, write_all};
 use crate::turns::cause_of;
 use crate::{
     Dir, FileStore, MemSink, MemStore, NoMemory, OutSink, Shape, Sink, SinkError, Store,
-    StoreError, Tile, TileKind, Tiles, Value, Values, push_number,
+    StoreError, Tile, TileKind, Tiles, Value, Values, lines, push_number,
 };
 use std::alloc::Global;
 use std::io::ErrorKind;
@@ -268,6 +268,71 @@ fn numbers_are_held_and_written(rt: HostRuntime) -> Result<(), Fail> {
     assert_eq!(rt; values.at(5).get(), 999);
     let want = b"00-999-999999999-1000-999-9223372036854775808-9999223372036854775807999";
     assert_eq!(rt; text.as_slice(), want.as_slice());
+    Ok(())
+}
+
+#[test]
+fn sums_and_differences_are_held(rt: HostRuntime) {
+    for (left, right, sum, difference) in [
+        (3, 4, 7, -1),
+        (999, 1, 999, 998),
+        (-999, 1, -998, -999),
+        (500, 600, 999, -100),
+        (-500, 600, 100, -999),
+        (0, -999, -999, 999),
+        (-999, -999, -999, 0),
+    ] {
+        let left = Value::clamp(left);
+        let right = Value::clamp(right);
+        assert_eq!(rt; left.add(right).get(), sum);
+        assert_eq!(rt; left.sub(right).get(), difference);
+        assert_eq!(rt; left.sub(right).neg(), right.sub(left));
+    }
+}
+
+#[test]
+fn spare_places_are_used_up_one_by_one(rt: HostRuntime) -> Result<(), Fail> {
+    let mut values = Values::new(rt.alloc());
+    assert_eq!(rt; values.spare(), 0);
+    values.push(Value::clamp(7))?;
+    values.reserve(3)?;
+    let spare = values.spare();
+    assert!(rt; 3 <= spare);
+    for number in [8, 9, 10] {
+        assert!(rt; 0 < values.spare());
+        values.push_spared(Value::clamp(number));
+    }
+    assert_eq!(rt; values.spare(), spare - 3);
+    assert!(rt; 2 <= values.len());
+    values.cut(2);
+    assert_eq!(rt; values.spare(), spare - 1);
+    assert_eq!(rt; values.len(), 2);
+    assert_eq!(rt; values.at(1).get(), 8);
+    Ok(())
+}
+
+#[test]
+fn lines_are_cut_at_each_lf(rt: HostRuntime) -> Result<(), Fail> {
+    for (text, want) in [
+        ("", ""),
+        ("\n", "[]"),
+        ("a", "[a]"),
+        ("a\n", "[a]"),
+        ("a\n\nbc\n", "[a][][bc]"),
+        ("a\r\nb", "[a][b]"),
+        ("a\n\r", "[a][]"),
+        ("\r", "[]"),
+        ("\r\r\n", "[\r]"),
+        ("a\rb\r\n", "[a\rb]"),
+    ] {
+        let mut found = Vec::new(rt.alloc());
+        for line in lines(text.as_bytes()) {
+            found.push(b'[')?;
+            found.extend_from_slice(line)?;
+            found.push(b']')?;
+        }
+        assert_eq!(rt; found.as_slice(), want.as_bytes());
+    }
     Ok(())
 }
 

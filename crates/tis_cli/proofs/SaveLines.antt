@@ -10,7 +10,7 @@ use Rattle.std.proofs.lemmas.Option.{get_or_from_slice_get}
 use Rattle.tis_base.specs.Lines.{text_lines, text_of_lines}
 use Rattle.tis_base.specs.Tiles.{Tiles, is_compute, block_of}
 use Rattle.tis_base.specs.declared.tiles.TileKind.TheVariants.{Compute, Damaged}
-use Rattle.tis_base.proofs.TextLines.{is_plain_byte, is_plain_line, list_all-join, text_lines-text_of_lines, text_of_lines-append}
+use Rattle.tis_base.proofs.WrittenLines.{is_plain_byte, is_plain_line, list_all-join, text_lines-text_of_lines, text_of_lines-append}
 use Rattle.tis_asm.specs.declared.instr.Instr.{Instr}
 use Rattle.tis_asm.specs.declared.instr.Instr.TheVariants.{Nop, Mov, Swp, Sav, Add, Sub, Neg, Jump, Jro}
 use Rattle.tis_asm.specs.declared.instr.Jump.TheVariants as jumps

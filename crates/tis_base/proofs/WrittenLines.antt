@@ -80,7 +80,7 @@ pieces-text (line ∷ lines) plain =
     pieces-first (λ byte. byte == 10) line (text_of_lines lines) 10 (no_lf line parts.0) refl ∙ ap (λ (rest : List (List ℕ)). line ∷ rest) (pieces-text lines parts.1)
 
 -- only the last piece is looked at
-end_step : (piece next : List ℕ) (pieces : List (List ℕ)) → without_empty_end (piece ∷ next ∷ pieces) ≡ piece ∷ without_empty_end (next ∷ pieces)
+pub end_step : (piece next : List ℕ) (pieces : List (List ℕ)) → without_empty_end (piece ∷ next ∷ pieces) ≡ piece ∷ without_empty_end (next ∷ pieces)
 end_step [] next pieces = refl
 end_step (byte ∷ piece) next pieces = refl
 
