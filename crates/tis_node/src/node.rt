@@ -1,6 +1,6 @@
 //! A compute node and what it can do.
 ghost use Rattle.std.specs.Prelude.{◌≡◌, ◌↔◌, ◌<◌, IsTrue, IsSome, length};
-ghost use Rattle.tis_asm.specs.Programs.{IsSound};
+ghost use Rattle.tis_asm.specs.Programs.{HasValues, IsSound};
 ghost use Rattle.tis_asm.specs.Node as table;
 ghost use Rattle.tis_node.specs.NodeView.{node_view, toward_view};
 ghost use Rattle.tis_node.specs.SupplyView.{supply_view};
@@ -118,7 +118,8 @@ impl Node {
 
     // The instruction at the pc.
     fn instr(&self, program: &Program) -> Option<Instr>
-        ensures { result ≡ table.instr_at program.now self.now.pc }
+        ensures instr { result ≡ table.instr_at program.now self.now.pc }
+        ensures values { HasValues program.now }
     {
         if self.pc < program.len() {
             Some(program.at(self.pc))
@@ -188,7 +189,7 @@ impl Node {
                 self.go_on(program);
             }
             Instr::Neg => {
-                self.acc = Value::clamp(-self.acc.get());
+                self.acc = self.acc.neg();
                 self.go_on(program);
             }
             Instr::Jump(jump, number) => {
@@ -230,11 +231,11 @@ impl Node {
         match instr {
             Instr::Mov(_, dest) => self.put_to(dest, program, value),
             Instr::Add(_) => {
-                self.acc = Value::clamp(self.acc.get() + value.get());
+                self.acc = self.acc.add(value);
                 self.go_on(program);
             }
             Instr::Sub(_) => {
-                self.acc = Value::clamp(self.acc.get() - value.get());
+                self.acc = self.acc.sub(value);
                 self.go_on(program);
             }
             Instr::Jro(_) => self.go_to(away(program, self.pc, value)),
@@ -338,6 +339,8 @@ impl Node {
         ensures step { node_view self.new ≡ table.take_value program.now (node_view self.old) dir value }
         ensures fits { table.FitsProgram program.now (node_view self.new) }
     {
+        // The call tells the proof that this is a value.
+        value.get();
         match self.instr(program) {
             Some(instr) => self.do_take(instr, program, dir, value),
             None => {}
@@ -371,11 +374,13 @@ impl Node {
         ensures fits { table.FitsProgram program.now (node_view self.new) }
     {
         if let Mode::Writing {
-            to: Toward::Any, ..
+            to: Toward::Any,
+            ..
         } = self.mode
         {
             self.last = Some(dir);
         }
+        program.len();
         self.go_on(program);
     }
 }
