@@ -1,6 +1,5 @@
 //! Laws of networks, of the programs that they are compiled to, and of the texts that are written.
 ghost use Rattle.tis_cli.specs.Behaves.{ProcessesBehave, ProcessesWait};
-ghost use Rattle.tis_cli.specs.Saves.{SavesReadBack};
 
 /// The code of a process of a column behaves as the process.
 pub fn processes_behave()
@@ -10,9 +9,4 @@ pub fn processes_behave()
 /// A process of a column never runs out of fuel: it comes to wait for one more value.
 pub fn processes_wait()
     ensures { ProcessesWait }
-{}
-
-/// The canonical save of a programs whose jumps stay inside is read as that programs.
-pub fn saves_read_back()
-    ensures { SavesReadBack }
 {}
