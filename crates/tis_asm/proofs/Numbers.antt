@@ -70,10 +70,10 @@ digits_number-push before number digit (byte ∷ digits) small all is =
     rw parts.0 (digits_number-push (10 * before + (byte - 48)) number digit digits small parts.1 read)
 
 -- digits, one or more, that are read as this number
-record IsNumeral (number : ℕ) (word : List ℕ) : Type 0 where
-  filled : is_filled word ≡ true
-  digits : list_all is_digit word ≡ true
-  read : digits_number 0 word ≡ Some number
+pub record IsNumeral (number : ℕ) (word : List ℕ) : Type 0 where
+  pub filled : is_filled word ≡ true
+  pub digits : list_all is_digit word ≡ true
+  pub read : digits_number 0 word ≡ Some number
 
 -- one more digit behind a word is a word
 filled_push : (word : List ℕ) (byte : ℕ) → is_filled (word ++ byte ∷ []) ≡ true
@@ -81,7 +81,7 @@ filled_push [] byte = refl
 filled_push (first ∷ word) byte = refl
 
 -- the decimal digits of a number are read as the number
-decimal_is_numeral : (number : ℕ) → number < 2 ^ 64 → IsNumeral number (decimal number)
+pub decimal_is_numeral : (number : ℕ) → number < 2 ^ 64 → IsNumeral number (decimal number)
 decimal_is_numeral =
     decimal_by_steps IsNumeral
     (λ number small. record { filled = refl; digits = and_from (is_digit (48 + number)) true (is_digit-digit number small) refl; read = digits_number-push 0 0 number [] small refl refl ∙ ap (λ (n : ℕ). Some n) (omega arith) })

@@ -11,11 +11,12 @@ use Rattle.tis_cli.specs.Commands.{Compile, IsCompiled}
 use Rattle.tis_cli.specs.Net.{Net}
 use Rattle.tis_cli.specs.Column.{column_net, NetOf}
 use Rattle.tis_cli.specs.Compiled.{compiled}
-use Rattle.tis_cli.specs.Saves.{save_text, save_of}
+use Rattle.tis_save.specs.Writing.{save_text}
+use Rattle.tis_save.specs.Reading.{save_of}
 use Rattle.tis_cli.specs.Outcomes.{texts_under, with_first, Outside, IsRefused, IsDone, Explains}
 use Rattle.tis_cli.proofs.Columns.{net_carries}
 use Rattle.tis_cli.proofs.ColumnPrograms.{column_are_programs, column_is_sound}
-use Rattle.tis_cli.proofs.SavesReadBack.{saves_read_back}
+use Rattle.tis_save.proofs.SavesReadBack.{saves_read_back}
 
 -- what a store told of its texts, where it told them
 pub told_is : (told : Option Texts) (P : Texts → Type 0) → IfSome told P → (texts : Texts) → told ≡ Some texts → P texts

@@ -5,7 +5,6 @@ pub mod BodyLines
 pub mod Distinct
 pub mod Spelling
 pub mod Found
-pub mod Blocks
 pub mod Emitted
 pub mod Explained
 pub mod Statuses
@@ -24,7 +23,5 @@ pub mod ColumnKahn
 pub mod BodyValues
 pub mod ColumnPrograms
 pub mod Columns
-pub mod SaveLines
-pub mod SavesReadBack
 pub mod Examples
 mod StreamExamples

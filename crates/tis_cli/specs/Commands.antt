@@ -9,7 +9,8 @@ use Rattle.tis_cli.specs.Net.{Net}
 use Rattle.tis_cli.specs.Column.{NetOf}
 use Rattle.tis_cli.specs.Compiled.{compiled}
 use Rattle.tis_cli.specs.Carries.{Carries}
-use Rattle.tis_cli.specs.Saves.{save_text, save_of}
+use Rattle.tis_save.specs.Writing.{save_text}
+use Rattle.tis_save.specs.Reading.{save_of}
 
 -- a command with its words
 pub data Command : Type 0 where

@@ -5,7 +5,6 @@ pub mod Reading
 pub mod NetView
 pub mod Compiled
 pub mod Emission
-pub mod Saves
 pub mod Answers
 pub mod Commands
 pub mod Process

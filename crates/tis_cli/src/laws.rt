@@ -1,8 +1,7 @@
-//! Laws of networks, of the programs that they are compiled to, and of the texts that are written.
+//! Laws of networks and of the programs that they are compiled to.
 ghost use Rattle.tis_cli.specs.Behaves.{ProcessesBehave, ProcessesWait};
 ghost use Rattle.tis_cli.specs.Kahn.{StepsWithinLimits};
 ghost use Rattle.tis_cli.specs.Process.{FuelBoundsSteps};
-ghost use Rattle.tis_cli.specs.Saves.{SavesReadBack};
 
 /// The code of a process of a column behaves as the process.
 pub fn processes_behave()
@@ -19,9 +18,4 @@ pub fn processes_wait()
 pub fn steps_are_bounded()
     ensures fuel { FuelBoundsSteps }
     ensures limits { StepsWithinLimits }
-{}
-
-/// The canonical save of programs whose jumps stay inside is read as these programs.
-pub fn saves_read_back()
-    ensures { SavesReadBack }
 {}

@@ -10,9 +10,9 @@ use crate::command::{Command, read_words};
 use crate::net_emit::emit;
 use crate::net_syntax::read_net;
 use crate::status::Status;
-use crate::tis_save::write_save;
 use std::alloc::Global;
 use tis_base::{Sink, Store};
+use tis_save::write_save;
 
 // Compiles the network under one name, and keeps its save under another.
 fn compile<S: Store>(alloc: Global, net: &str, save: &str, store: &mut S) -> Result<(), Status>

@@ -1,6 +1,6 @@
 use Rattle.std.proofs.Common.{rules, ◌≡◌, ◌∙◌, Err, ap}
 use Rattle.tis_cli.specs.Statuses.{net_status}
-use Rattle.tis_cli.specs.Saves.{save_text}
+use Rattle.tis_save.specs.Writing.{save_text}
 use Rattle.tis_cli.specs.NetView.{net_view}
 use Rattle.tis_cli.proofs.Explained.{unread_explained, saved_explained}
 use Rattle.tis_cli.proofs.run.compile.Goals as goal

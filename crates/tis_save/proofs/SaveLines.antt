@@ -1,9 +1,10 @@
 -- The lines of a save: for each tile with a program its head, its code and an empty line.
 use Rattle.std.proofs.Common.{◌≡◌, ℕ, ◌+◌, ◌%◌, ◌^◌, ◌<◌, ◌≤◌, Bool, true, false, cond, List, [], ◌∷◌, ◌++◌, length, take, count_by, refl, sym, ap, subst, ◌∙◌, inl, inr, arith}
-use Rattle.std.specs.Prelude.{flat_map, decimal, not}
+use Rattle.std.specs.Prelude.{flat_map, decimal}
 use Rattle.std.specs.List.{list_all}
 use Rattle.std.proofs.lemmas.Bool.{true≢false, cases_Bool, and_from, ne_eqb}
-use Rattle.std.proofs.lemmas.Fmt.{decimal_by_steps, decimal_injective}
+use Rattle.std.proofs.lemmas.Fmt.{decimal_by_steps}
+use Rattle.std.proofs.Math.Seq.{take-length}
 use Rattle.std.proofs.lemmas.List.{length-take, take-take}
 use Rattle.std.proofs.lemmas.List.Sums.{count_by-le-length, count_by_more_yes, sum_by-take-le}
 use Rattle.std.proofs.lemmas.Option.{get_or_from_slice_get}
@@ -18,7 +19,8 @@ use Rattle.tis_asm.specs.declared.program.MarkedInstr.{MarkedInstr}
 use Rattle.tis_asm.specs.Programs.{Programs, ArePrograms, HasValues, IsSound, program_at}
 use Rattle.tis_asm.specs.Code.{label_text, mark_text, instr_text, is_target, line_text, lines_from, code_lines}
 use Rattle.tis_asm.proofs.ReadingBack.{program_is_plain}
-use Rattle.tis_cli.specs.Saves.{head_of, block_text, tile_text, is_head, computes}
+use Rattle.tis_save.specs.Writing.{head_of, block_text, tile_text}
+use Rattle.tis_save.specs.Reading.{is_code, computes, compute_count}
 
 -- ---- the lines of one block
 
@@ -50,10 +52,6 @@ sections-text programs (tile ∷ tiles) =
     ∙ sym (text_of_lines-append (tile_section programs tile) (flat_map (tile_section programs) tiles))
 
 -- ---- heads and code
-
--- a line that isn't a head
-abbrev pub is_code : List ℕ → Bool
-is_code line = not (is_head line)
 
 -- a line of a program isn't a head, with a label or a mark or neither
 marked_is_code : (mark : Bool) (instr : Instr) → is_code (mark_text mark ++ instr_text instr) ≡ true
@@ -93,20 +91,23 @@ taken_more : {X : Type 0} (test : X → Bool) (xs : List X) (few many : ℕ) →
 taken_more test xs few many le = subst (λ prefix. count_by test prefix ≤ count_by test (take many xs)) (take-take few many xs le) (sum_by-take-le (λ x. cond (test x) 1 0) (take many xs) few)
 
 -- the block of a compute tile has a smaller number than those of the tiles behind it
-blocks_grow : (tiles : Tiles) (first second : ℕ) → first < length tiles.kinds → computes tiles first ≡ true → first < second → block_of tiles first < block_of tiles second
+pub blocks_grow : (tiles : Tiles) (first second : ℕ) → first < length tiles.kinds → computes tiles first ≡ true → first < second → block_of tiles first < block_of tiles second
 blocks_grow tiles first second inside computing before =
     omega (arith, count_by_more_yes is_compute tiles.kinds first Damaged inside computing, taken_more is_compute tiles.kinds (first + 1) second (omega arith))
 
 -- there are no more blocks than tiles
-block_is_small : (tiles : Tiles) (tile : ℕ) → length tiles.kinds < 2 ^ 64 → block_of tiles tile < 2 ^ 64
+pub block_few : (tiles : Tiles) (tile : ℕ) → block_of tiles tile ≤ length tiles.kinds
+block_few tiles tile = omega (arith, count_by-le-length is_compute (take tile tiles.kinds), length-take tile tiles.kinds)
+
+-- so their numbers are small
+pub block_is_small : (tiles : Tiles) (tile : ℕ) → length tiles.kinds < 2 ^ 64 → block_of tiles tile < 2 ^ 64
 block_is_small tiles tile small = omega (arith, count_by-le-length is_compute (take tile tiles.kinds), length-take tile tiles.kinds)
 
--- two compute tiles have different heads
-pub heads_differ : (tiles : Tiles) (first second : ℕ) → length tiles.kinds < 2 ^ 64 → first < length tiles.kinds → computes tiles first ≡ true → first < second → head_of tiles first ≡ head_of tiles second → ⊥
-heads_differ tiles first second small inside computing before same =
-    let numerals : decimal (block_of tiles first) ≡ decimal (block_of tiles second) = cc in
-    let numbers : block_of tiles first ≡ block_of tiles second = decimal_injective (block_of tiles first) (block_of tiles second) (block_is_small tiles first small) (block_is_small tiles second small) numerals in
-    omega (arith, blocks_grow tiles first second inside computing before, numbers)
+-- the block of a compute tile is one of them
+pub block_below : (tiles : Tiles) (tile : ℕ) → tile < length tiles.kinds → computes tiles tile ≡ true → block_of tiles tile < compute_count tiles
+block_below tiles tile inside computing =
+    let all : take (length tiles.kinds) tiles.kinds ≡ tiles.kinds = take-length tiles.kinds in
+    omega (arith, count_by_more_yes is_compute tiles.kinds tile Damaged inside computing, taken_more is_compute tiles.kinds (tile + 1) (length tiles.kinds) (omega arith), ap (count_by is_compute) all)
 
 -- a tile that computes nothing has the empty program
 pub no_program : (programs : Programs) → ArePrograms programs → (tile : ℕ) → computes programs.tiles tile ≡ false → program_at programs.programs tile ≡ []

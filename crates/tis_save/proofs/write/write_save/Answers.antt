@@ -2,9 +2,9 @@ use Rattle.std.proofs.Common.{◌≡◌, ℕ, ◌+◌, cond, List, ◌++◌, ◌
 use Rattle.std.specs.Prelude.{flat_map, slice_get, decimal}
 use Rattle.std.specs.List.{range_with_len}
 use Rattle.tis_base.specs.Tiles.{is_compute}
-use Rattle.tis_cli.specs.Saves.{block_text, tile_text}
-use Rattle.tis_cli.proofs.Blocks.{flat_map-range_more, block_of-next, written_block, at_most_one_more}
-use Rattle.tis_cli.proofs.tis_save.write_save.Goals as goal
+use Rattle.tis_save.specs.Writing.{block_text, tile_text}
+use Rattle.tis_save.proofs.Blocks.{flat_map-range_more, block_of-next, written_block, at_most_one_more}
+use Rattle.tis_save.proofs.write.write_save.Goals as goal
 
 pub loop-number-preserved : goal.loop-number-preserved
 loop-number-preserved c =

@@ -2,8 +2,8 @@ use Rattle.std.proofs.Common.{◌≡◌, ◌≤◌}
 use Rattle.std.specs.Prelude.{flat_map}
 use Rattle.std.specs.List.{range_with_len}
 use Rattle.tis_base.specs.Tiles.{block_of}
-use Rattle.tis_cli.specs.Saves.{tile_text}
-use Rattle.tis_cli.proofs.tis_save.write_save.Given as goal
+use Rattle.tis_save.specs.Writing.{tile_text}
+use Rattle.tis_save.proofs.write.write_save.Given as goal
 
 abbrev pub invariant-loop-number : goal.invariant-loop-number
 invariant-loop-number l =

@@ -2,7 +2,7 @@
 ghost use Rattle.std.specs.Prelude.{◌≡◌, ◌+◌, ◌<◌, ◌++◌, ◌∷◌, decimal, if◌then◌else◌, OnOk};
 ghost use Rattle.tis_base.specs.Answers.{Gives};
 ghost use Rattle.tis_base.specs.Tiles.{is_compute};
-ghost use Rattle.tis_cli.specs.Saves.{block_text, save_text};
+ghost use Rattle.tis_save.specs.Writing.{block_text, save_text};
 
 use std::alloc::Global;
 use tis_asm::{Program, Programs, print};

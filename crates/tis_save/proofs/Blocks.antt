@@ -11,7 +11,7 @@ use Rattle.tis_base.specs.declared.tiles.TileKind.TheVariants.{Damaged}
 use Rattle.tis_base.specs.Tiles.{Tiles, is_compute, block_of}
 use Rattle.tis_asm.specs.declared.program.MarkedInstr.{MarkedInstr}
 use Rattle.tis_asm.specs.Programs.{Programs}
-use Rattle.tis_cli.specs.Saves.{block_text, tile_text}
+use Rattle.tis_save.specs.Writing.{block_text, tile_text}
 
 range_push : (a n : ℕ) → range_with_len a (suc n) ≡ range_with_len a n ++ (a + n) ∷ []
 range_push a zero = ap (λ (x : ℕ). x ∷ []) (omega arith)
