@@ -1,0 +1,43 @@
+-- The words of a text's lines.
+use Rattle.std.specs.Prelude.{ℕ, ◌+◌, Bool, true, false, ◌||◌, not, List, [], ◌∷◌, filter, ◌==◌}
+use Rattle.std.specs.List.{take_while}
+use Rattle.tis_base.specs.Lines.{pieces_where, text_lines}
+
+-- a line as its words
+abbrev pub Words : Type 0
+Words = List (List ℕ)
+
+-- a blank or a tab
+abbrev pub is_blank : ℕ → Bool
+is_blank byte = byte == 32 || byte == 9
+
+-- what stands before the first `#`
+abbrev pub before_comment : List ℕ → List ℕ
+before_comment line = take_while (λ byte. not (byte == 35)) line
+
+abbrev pub is_word : List ℕ → Bool
+is_word [] = false
+is_word (byte ∷ bytes) = true
+
+-- the words of a line: what stands between blanks, without its comment
+abbrev pub line_words : List ℕ → Words
+line_words line = filter is_word (pieces_where is_blank (before_comment line))
+
+-- a line that isn't blank: its number, counted from 1 over all lines, and its words
+pub record Filled : Type 0 where
+  pub number : ℕ
+  pub words : Words
+
+-- a line with its number before the others, where it has words
+abbrev pub filled_before : ℕ → Words → List Filled → List Filled
+filled_before number [] lines = lines
+filled_before number (word ∷ words) lines = record { number = number; words = word ∷ words } ∷ lines
+
+-- the lines that aren't blank, where the first line has this number
+abbrev pub filled_from : ℕ → List (List ℕ) → List Filled
+filled_from number [] = []
+filled_from number (line ∷ lines) = filled_before number (line_words line) (filled_from (number + 1) lines)
+
+-- the lines of a text that aren't blank; a line that has only a comment is blank
+abbrev pub filled_lines : List ℕ → List Filled
+filled_lines text = filled_from 1 (text_lines text)

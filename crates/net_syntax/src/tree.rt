@@ -1,0 +1,124 @@
+//! The tree of a network.
+ghost use Rattle.std.specs.Prelude.{◌≡◌, ◌<◌, ◌≤◌, ◌↔◌, [], ◌∷◌, ◌++◌, length, slice_get, Some, IsTrue};
+
+use crate::name::Name;
+use crate::path::Path;
+use sqlite_items::Items;
+use std::alloc::Global;
+use tis_base::{NoMemory, Tiles, Value};
+
+/// The two variables of a process.
+#[derive(Clone, Copy, Debug, PartialEq, Eq, Hash)]
+pub enum Var {
+    X,
+    Y,
+}
+
+/// How a variable is compared with 0.
+#[derive(Clone, Copy, Debug, PartialEq, Eq, Hash)]
+pub enum Test {
+    Zero,
+    NotZero,
+    Negative,
+    Positive,
+    NotPositive,
+    NotNegative,
+}
+
+/// What a process does next.
+#[cycle(tree)]
+#[derive(Drop)]
+pub enum Statement {
+    /// Reads a value into a variable.
+    Get(Name, Var),
+    GetAdd(Name, Var),
+    GetSub(Name, Var),
+    /// Sends the value of a variable.
+    Put(Name, Var),
+    /// Sends a number.
+    PutNumber(Name, Value),
+    /// Reads a value from the first name and sends it on the second.
+    Move(Name, Name),
+    /// The number becomes the value of the variable.
+    Set(Var, Value),
+    /// Adds the number to the variable.
+    Add(Var, Value),
+    /// Subtracts the number from the variable.
+    Sub(Var, Value),
+    /// Turns the sign of the variable.
+    Neg(Var),
+    /// Adds the variable to itself.
+    Double(Var),
+    Copy(Var, Var),
+    Swap,
+    If(Var, Test, Block, Block),
+    While(Var, Test, Block),
+    Count(Var, Block),
+}
+
+/// A statement and the number of its line.
+#[cycle(tree)]
+#[derive(Drop)]
+struct Numbered {
+    statement: Statement,
+    line: usize,
+}
+
+/// Statements in order.
+#[cycle(tree)]
+#[derive(Drop)]
+pub struct Block {
+    statements: Items<Numbered>,
+}
+
+/// An input or an output at a position, and the tiles that its link passes, where it is pinned.
+#[derive(Debug, Drop)]
+pub struct PortLine {
+    pub name: Name,
+    pub position: u8,
+    pub via: Option<Path>,
+    pub line: usize,
+}
+
+/// A channel, and the tiles that its link passes, where it is pinned.
+#[derive(Debug, Drop)]
+pub struct ChannelLine {
+    pub name: Name,
+    pub via: Option<Path>,
+    pub line: usize,
+}
+
+/// A process, its tile, where it is pinned, and what it does round after round.
+#[derive(Drop)]
+pub struct ProcessText {
+    pub name: Name,
+    pub at: Option<u8>,
+    pub body: Block,
+    pub line: usize,
+}
+
+/// A network: its tiles, its inputs and outputs, its channels and its processes.
+#[derive(Drop)]
+pub struct Net {
+    pub version: u8,
+    pub tiles: Tiles,
+    pub inputs: Vec<PortLine>,
+    pub outputs: Vec<PortLine>,
+    pub channels: Vec<ChannelLine>,
+    pub processes: Vec<ProcessText>,
+}
+
+impl Block {
+    pub fn new(alloc: Global) -> Block {
+        Block { statements: Items::new(alloc) }
+    }
+
+    pub fn push(&mut self, statement: Statement, line: usize) -> Result<(), NoMemory> {
+        self.statements.push(Numbered { statement, line })?;
+        Ok(())
+    }
+
+    pub fn len(&self) -> usize {
+        self.statements.len()
+    }
+}
