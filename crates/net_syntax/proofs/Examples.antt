@@ -7,7 +7,7 @@ use Rattle.tis_base.specs.Tiles.{Tiles}
 use Rattle.net_syntax.specs.declared.tree.Var.TheVariants.{X, Y}
 use Rattle.net_syntax.specs.declared.tree.Test.TheVariants.{Zero, NotZero}
 use Rattle.net_syntax.specs.Tree.{Name, Statement, Get, Put, PutNumber, Move, If, While, Count, Block, Done, Then, Net, Refusal, BadLine, TooDeep, StrayEnd, Unclosed}
-use Rattle.net_syntax.specs.Sayings.{followed_by, number_of, value_of, tiles_of, next_word, at_end, tiles_to_end, path_of, via_of, at_of, port_of, channel_of, process_of, name_and_var, put_of, move_of, var_and_number, var_alone, copy_of, test_line, version_of, keyword_of, said, saying_of, lines_of, lines_up_to, Version, Wrong}
+use Rattle.net_syntax.specs.Sayings.{followed_by, number_of, value_of, tiles_of, next_word, at_end, tiles_to_end, path_of, via_of, at_of, port_of, channel_of, process_of, name_and_var, put_of, two_names, var_and_number, one_var, two_vars, test_against_zero, version_of, row_of, statement_of, keyword_of, said, saying_of, lines_of, lines_up_to, Version, Wrong}
 use Rattle.net_syntax.specs.Words.{filled_lines}
 use Rattle.net_syntax.specs.Outcome.{and_then, lines_behind, net_of}
 use Rattle.net_syntax.specs.NetText.{net_text}
@@ -41,7 +41,7 @@ one_column :
     × (net_of (head ++ codes "move a o\n") ≡ Err (Unclosed 5))
     × (net_of (head ++ codes "move a o\nend\nend\n") ≡ Err (StrayEnd 8))
     × (net_of (head ++ codes "put o 1\nend\n") ≡ Ok (column (Then 6 (PutNumber (codes "o") (pos 1)) Done)))
-unfolding followed_by number_of value_of tiles_of next_word at_end tiles_to_end path_of via_of at_of port_of channel_of process_of name_and_var put_of move_of var_and_number var_alone copy_of test_line version_of keyword_of said saying_of lines_of and_then lines_behind net_of
+unfolding followed_by number_of value_of tiles_of next_word at_end tiles_to_end path_of via_of at_of port_of channel_of process_of name_and_var put_of two_names var_and_number one_var two_vars test_against_zero version_of row_of statement_of keyword_of said saying_of lines_of and_then lines_behind net_of
 one_column = (refl, refl, refl, refl)
 
 -- a missing or wrong first or second line
@@ -54,14 +54,14 @@ heads :
     × (net_of (codes "net 1\nelse\n") ≡ Err (StrayEnd 2))
     × (net_of (codes "net 1\ntiles cccc CCCC CCCC\n") ≡ Err (BadLine 2))
     × (net_of (codes "net 1\ntiles CCCC CCCC\n") ≡ Err (BadLine 2))
-unfolding followed_by number_of value_of tiles_of next_word at_end tiles_to_end path_of via_of at_of port_of channel_of process_of name_and_var put_of move_of var_and_number var_alone copy_of test_line version_of keyword_of said saying_of lines_of and_then lines_behind net_of
+unfolding followed_by number_of value_of tiles_of next_word at_end tiles_to_end path_of via_of at_of port_of channel_of process_of name_and_var put_of two_names var_and_number one_var two_vars test_against_zero version_of row_of statement_of keyword_of said saying_of lines_of and_then lines_behind net_of
 heads = (refl, refl, refl, refl, refl, refl, refl, refl)
 
 -- blanks, comments, CR, and keywords as names
 blanks :
     (net_of (head ++ codes "# first\n\n  get  a\tx # into x\r\n \nput o -007\nend") ≡ Ok (column (Then 8 (Get (codes "a") X) (Then 10 (PutNumber (codes "o") (negsuc 6)) Done))))
     × (net_of (head ++ codes "move if end\nput else -0\nend\n") ≡ Ok (column (Then 6 (Move (codes "if") (codes "end")) (Then 7 (PutNumber (codes "else") (pos 0)) Done))))
-unfolding followed_by number_of value_of tiles_of next_word at_end tiles_to_end path_of via_of at_of port_of channel_of process_of name_and_var put_of move_of var_and_number var_alone copy_of test_line version_of keyword_of said saying_of lines_of and_then lines_behind net_of
+unfolding followed_by number_of value_of tiles_of next_word at_end tiles_to_end path_of via_of at_of port_of channel_of process_of name_and_var put_of two_names var_and_number one_var two_vars test_against_zero version_of row_of statement_of keyword_of said saying_of lines_of and_then lines_behind net_of
 blanks = (refl, refl)
 
 -- blocks in blocks, with and without `else`
@@ -75,7 +75,7 @@ nesting :
     × (net_of (head ++ codes "else\n") ≡ Err (StrayEnd 6))
     × (net_of (head ++ codes "end x\n") ≡ Err (BadLine 6))
     × (net_of (head ++ codes "if x = 00\n") ≡ Err (BadLine 6))
-unfolding followed_by number_of value_of tiles_of next_word at_end tiles_to_end path_of via_of at_of port_of channel_of process_of name_and_var put_of move_of var_and_number var_alone copy_of test_line version_of keyword_of said saying_of lines_of and_then lines_behind net_of
+unfolding followed_by number_of value_of tiles_of next_word at_end tiles_to_end path_of via_of at_of port_of channel_of process_of name_and_var put_of two_names var_and_number one_var two_vars test_against_zero version_of row_of statement_of keyword_of said saying_of lines_of and_then lines_behind net_of
 nesting = (refl, refl, refl, refl, refl, refl, refl, refl, refl)
 
 -- sixteen blocks may be open, and the seventeenth is refused
@@ -84,7 +84,7 @@ too_deep :
     × (net_of (head ++ codes "if x = 0\nif x = 0\nif x = 0\nif x = 0\nif x = 0\nif x = 0\nif x = 0\nif x = 0\nif x = 0\nif x = 0\nif x = 0\nif x = 0\nif x = 0\nif x = 0\nif x = 0\nif x = 0\nwhile y\n") ≡ Err (BadLine 22))
     × (net_of (head ++ codes "if x = 0\nif x = 0\nif x = 0\nif x = 0\nif x = 0\nif x = 0\nif x = 0\nif x = 0\nif x = 0\nif x = 0\nif x = 0\nif x = 0\nif x = 0\nif x = 0\nif x = 0\nif x = 0\nput o 1\n") ≡ Err (Unclosed 21))
     × (net_of (head ++ codes "if x = 0\nif x = 0\nif x = 0\nif x = 0\nif x = 0\nif x = 0\nif x = 0\nif x = 0\nif x = 0\nif x = 0\nif x = 0\nif x = 0\nif x = 0\nif x = 0\nif x = 0\nif x = 0\nelse\ncount y\n") ≡ Err (TooDeep 23))
-unfolding followed_by number_of value_of tiles_of next_word at_end tiles_to_end path_of via_of at_of port_of channel_of process_of name_and_var put_of move_of var_and_number var_alone copy_of test_line version_of keyword_of said saying_of lines_of and_then lines_behind net_of
+unfolding followed_by number_of value_of tiles_of next_word at_end tiles_to_end path_of via_of at_of port_of channel_of process_of name_and_var put_of two_names var_and_number one_var two_vars test_against_zero version_of row_of statement_of keyword_of said saying_of lines_of and_then lines_behind net_of
 too_deep = (refl, refl, refl, refl)
 
 -- lines that are wrong by themselves or where they stand
@@ -98,7 +98,7 @@ wrong_lines :
     × (net_of (head ++ codes "end\nchannel c via 100\n") ≡ Err (BadLine 7))
     × (net_of (head ++ codes "end\ninput b at 4\n") ≡ Err (BadLine 7))
     × (net_of (head ++ codes "end\ninput b at 03 via 007\nnet 1\n") ≡ Err (BadLine 8))
-unfolding followed_by number_of value_of tiles_of next_word at_end tiles_to_end path_of via_of at_of port_of channel_of process_of name_and_var put_of move_of var_and_number var_alone copy_of test_line version_of keyword_of said saying_of lines_of and_then lines_behind net_of
+unfolding followed_by number_of value_of tiles_of next_word at_end tiles_to_end path_of via_of at_of port_of channel_of process_of name_and_var put_of two_names var_and_number one_var two_vars test_against_zero version_of row_of statement_of keyword_of said saying_of lines_of and_then lines_behind net_of
 wrong_lines = (refl, refl, refl, refl, refl, refl, refl, refl, refl)
 
 -- past the last line that may say something every line is wrong

@@ -1,1 +1,3 @@
 mod Examples
+mod Views
+mod Cutting

@@ -5,3 +5,5 @@ pub mod Sayings
 pub mod Grammar
 pub mod Outcome
 pub mod NetText
+pub mod View
+pub mod Reads

@@ -72,45 +72,31 @@ test_of word =
     else if bytes_eq word (codes ">=") then Some NotNegative
     else None
 
--- the number that these digits spell, behind those that spell the first number
-abbrev pub spelled_behind : ℕ → List ℕ → ℕ
-spelled_behind number [] = number
-spelled_behind number (digit ∷ digits) = spelled_behind (number * 10 + (digit - 48)) digits
+-- what a digit stands for
+abbrev pub digit : ℕ → Option ℕ
+digit byte = if is_ascii_digit byte then Some (byte - 48) else None
 
--- one or more digits
-abbrev pub is_numeral : List ℕ → Bool
-is_numeral [] = false
-is_numeral (digit ∷ digits) = list_all is_ascii_digit (digit ∷ digits)
+-- the number that these digits spell, behind those that spell the first number
+abbrev pub spelled_behind : ℕ → List ℕ → Option ℕ
+spelled_behind number [] = Some number
+spelled_behind number (byte ∷ bytes) = option_and_then (λ value. spelled_behind (number * 10 + value) bytes) (digit byte)
+
+-- the number that one or more digits spell
+abbrev pub spelled : List ℕ → Option ℕ
+spelled [] = None
+spelled (byte ∷ bytes) = spelled_behind 0 (byte ∷ bytes)
+
+abbrev pub at_most : ℕ → ℕ → Option ℕ
+at_most most number = if nat_le number most then Some number else None
 
 -- a word of digits, any number of them, that spells at most this number
 unfoldable pub number_of : ℕ → List ℕ → Option ℕ
-number_of most word = if is_numeral word && nat_le (spelled_behind 0 word) most then Some (spelled_behind 0 word) else None
+number_of most word = option_and_then (at_most most) (spelled word)
 
 -- a numeral, which a `-` may stand before, that spells a value from -999 to 999
 unfoldable pub value_of : List ℕ → Option ℤ
 value_of [] = None
 value_of (byte ∷ bytes) = if byte == 45 then option_map (λ n. neg_ℤ (pos n)) (number_of 999 bytes) else option_map (λ n. pos n) (number_of 999 (byte ∷ bytes))
-
--- ---- the tiles
-
-abbrev pub kind_of : ℕ → Option TileKind
-kind_of letter = if letter == 67 then Some Compute else if letter == 77 then Some Memory else if letter == 68 then Some Damaged else None
-
--- the kinds that these letters stand for
-abbrev pub kinds_of : List ℕ → Option (List TileKind)
-kinds_of [] = Some []
-kinds_of (letter ∷ letters) = option_and_then (λ kind. option_map (λ kinds. kind ∷ kinds) (kinds_of letters)) (kind_of letter)
-
--- each row has so many letters
-abbrev pub have_columns : ℕ → Words → Bool
-have_columns columns rows = list_all (λ row. nat_eq (length row) columns) rows
-
--- the tiles of four columns and three rows whose letters these words are, row by row
-unfoldable pub tiles_of : Words → Option Tiles
-tiles_of rows =
-    if nat_eq (length rows) 3 && have_columns 4 rows
-    then option_map (λ kinds. record { shape = record { columns = 4; rows = 3 }; kinds = kinds }) (kinds_of (flat_map (λ row. row) rows))
-    else None
 
 -- ---- the parts of a line: what is read, and the words behind it
 
@@ -129,9 +115,12 @@ unfoldable pub tiles_to_end : Words → Option (List ℕ)
 tiles_to_end [] = Some []
 tiles_to_end (word ∷ words) = option_and_then (λ tile. option_map (λ tiles. tile ∷ tiles) (tiles_to_end words)) (number_of 99 word)
 
--- at most 48 of them
+-- at most 48 tiles
+abbrev pub short_path : List ℕ → Option (List ℕ)
+short_path tiles = if nat_le (length tiles) 48 then Some tiles else None
+
 unfoldable pub path_of : Words → Option (List ℕ)
-path_of words = if nat_le (length words) 48 then tiles_to_end words else None
+path_of words = option_and_then short_path (tiles_to_end words)
 
 -- nothing, or `via` and the tiles that the link passes
 unfoldable pub via_of : Words → Option (Option (List ℕ))
@@ -149,72 +138,80 @@ at_of (word ∷ words) = do
 -- ---- lines
 
 -- a name, `at` and a position from 0 to 3, and how the link goes
-unfoldable pub port_of : (Name → ℕ → Option (List ℕ) → Saying) → Words → Option Saying
-port_of side words = do
+unfoldable pub port_of : Words → Option (Name × ℕ × Option (List ℕ))
+port_of words = do
   name ← next_word name_of words
   at ← next_word (exactly (codes "at")) name.1
   position ← next_word (number_of 3) at.1
   via ← via_of position.1
-  Some (side name.0 position.0 via)
+  Some (name.0, position.0, via)
 
-unfoldable pub channel_of : Words → Option Saying
+-- a name, and how the link goes
+unfoldable pub channel_of : Words → Option (Name × Option (List ℕ))
 channel_of words = do
   name ← next_word name_of words
   via ← via_of name.1
-  Some (Channel name.0 via)
+  Some (name.0, via)
 
-unfoldable pub process_of : Words → Option Saying
+-- a name, and where the process stands
+unfoldable pub process_of : Words → Option (Name × Option ℕ)
 process_of words = do
   name ← next_word name_of words
   at ← at_of name.1
-  Some (Process name.0 at)
+  Some (name.0, at)
 
 -- a name and a variable
-unfoldable pub name_and_var : (Name → Var → Statement Name) → Words → Option (Statement Name)
-name_and_var form words = do
+unfoldable pub name_and_var : Words → Option (Name × Var)
+name_and_var words = do
   name ← next_word name_of words
   var ← next_word var_of name.1
-  at_end var.1 (form name.0 var.0)
+  at_end var.1 (name.0, var.0)
 
--- a name, and a variable or a number
+-- what is sent: a variable or a number
+abbrev pub sent_on : Name → List ℕ → Option (Statement Name)
+sent_on name word = option_or (option_map (Put name) (var_of word)) (option_map (PutNumber name) (value_of word))
+
+-- a name, and what is sent on it
 unfoldable pub put_of : Words → Option (Statement Name)
 put_of words = do
   name ← next_word name_of words
-  sent ← next_word (λ word. option_or (option_map (Put name.0) (var_of word)) (option_map (PutNumber name.0) (value_of word))) name.1
-  at_end sent.1 sent.0
+  statement ← next_word (sent_on name.0) name.1
+  at_end statement.1 statement.0
 
-unfoldable pub move_of : Words → Option (Statement Name)
-move_of words = do
-  read ← next_word name_of words
-  written ← next_word name_of read.1
-  at_end written.1 (Move read.0 written.0)
+-- two names
+unfoldable pub two_names : Words → Option (Name × Name)
+two_names words = do
+  first ← next_word name_of words
+  second ← next_word name_of first.1
+  at_end second.1 (first.0, second.0)
 
 -- a variable and a number
-unfoldable pub var_and_number : (Var → ℤ → Statement Name) → Words → Option (Statement Name)
-var_and_number form words = do
+unfoldable pub var_and_number : Words → Option (Var × ℤ)
+var_and_number words = do
   var ← next_word var_of words
   number ← next_word value_of var.1
-  at_end number.1 (form var.0 number.0)
+  at_end number.1 (var.0, number.0)
 
 -- a variable alone
-unfoldable pub var_alone : {X : Type 0} → (Var → X) → Words → Option X
-var_alone form words = do
+unfoldable pub one_var : Words → Option Var
+one_var words = do
   var ← next_word var_of words
-  at_end var.1 (form var.0)
+  at_end var.1 var.0
 
-unfoldable pub copy_of : Words → Option (Statement Name)
-copy_of words = do
-  to ← next_word var_of words
-  from ← next_word var_of to.1
-  at_end from.1 (Copy to.0 from.0)
+-- two variables
+unfoldable pub two_vars : Words → Option (Var × Var)
+two_vars words = do
+  first ← next_word var_of words
+  second ← next_word var_of first.1
+  at_end second.1 (first.0, second.0)
 
 -- a variable, how it is compared, and `0`
-unfoldable pub test_line : (Var → Test → Saying) → Words → Option Saying
-test_line form words = do
+unfoldable pub test_against_zero : Words → Option (Var × Test)
+test_against_zero words = do
   var ← next_word var_of words
   test ← next_word test_of var.1
   zero ← next_word (exactly (codes "0")) test.1
-  at_end zero.1 (form var.0 test.0)
+  at_end zero.1 (var.0, test.0)
 
 -- the first line has `1` behind its word
 unfoldable pub version_of : Words → Option Saying
@@ -222,9 +219,28 @@ version_of words = do
   version ← next_word (exactly (codes "1")) words
   at_end version.1 Version
 
--- a statement without a block
-abbrev pub does : Option (Statement Name) → Option Saying
-does statement = option_map Does statement
+-- ---- the tiles: this is the one place that knows how many columns and rows there are
+
+abbrev pub kind_of : ℕ → Option TileKind
+kind_of letter = if letter == 67 then Some Compute else if letter == 77 then Some Memory else if letter == 68 then Some Damaged else None
+
+-- the kinds that the letters of a word of four stand for
+unfoldable pub row_of : List ℕ → Option (List TileKind)
+row_of (a ∷ b ∷ c ∷ d ∷ []) = do
+  first ← kind_of a
+  second ← kind_of b
+  third ← kind_of c
+  fourth ← kind_of d
+  Some (first ∷ second ∷ third ∷ fourth ∷ [])
+row_of word = None
+
+-- three rows of four tiles
+unfoldable pub tiles_of : Words → Option Tiles
+tiles_of words = do
+  first ← next_word row_of words
+  second ← next_word row_of first.1
+  third ← next_word row_of second.1
+  at_end third.1 (record { shape = record { columns = 4; rows = 3 }; kinds = first.0 ++ second.0 ++ third.0 })
 
 -- ---- the first word of a line
 
@@ -269,31 +285,36 @@ variable_keyword text =
 unfoldable pub keyword_of : List ℕ → Option Keyword
 keyword_of text = option_or (frame_keyword text) (option_or (statement_keyword text) (variable_keyword text))
 
--- what a line says by the words behind its first word
+-- a statement without a block, by the words behind its first word
+unfoldable pub statement_of : Keyword → Words → Option (Statement Name)
+statement_of word.Get words = option_map (λ p. Get p.0 p.1) (name_and_var words)
+statement_of word.GetAdd words = option_map (λ p. GetAdd p.0 p.1) (name_and_var words)
+statement_of word.GetSub words = option_map (λ p. GetSub p.0 p.1) (name_and_var words)
+statement_of word.Put words = put_of words
+statement_of word.Move words = option_map (λ p. Move p.0 p.1) (two_names words)
+statement_of word.Set words = option_map (λ p. Set p.0 p.1) (var_and_number words)
+statement_of word.Add words = option_map (λ p. Add p.0 p.1) (var_and_number words)
+statement_of word.Sub words = option_map (λ p. Sub p.0 p.1) (var_and_number words)
+statement_of word.Neg words = option_map Neg (one_var words)
+statement_of word.Double words = option_map Double (one_var words)
+statement_of word.Copy words = option_map (λ p. Copy p.0 p.1) (two_vars words)
+statement_of word.Swap words = at_end words Swap
+statement_of keyword words = None
+
+-- what a line says, by the words behind its first word
 unfoldable pub said : Keyword → Words → Option Saying
 said word.Net words = version_of words
 said word.Tiles words = option_map Bench (tiles_of words)
-said word.Input words = port_of Input words
-said word.Output words = port_of Output words
-said word.Channel words = channel_of words
-said word.Process words = process_of words
+said word.Input words = option_map (λ p. Input p.0 p.1 p.2) (port_of words)
+said word.Output words = option_map (λ p. Output p.0 p.1 p.2) (port_of words)
+said word.Channel words = option_map (λ p. Channel p.0 p.1) (channel_of words)
+said word.Process words = option_map (λ p. Process p.0 p.1) (process_of words)
 said word.Else words = at_end words Else
 said word.End words = at_end words End
-said word.Get words = does (name_and_var Get words)
-said word.GetAdd words = does (name_and_var GetAdd words)
-said word.GetSub words = does (name_and_var GetSub words)
-said word.Put words = does (put_of words)
-said word.Move words = does (move_of words)
-said word.If words = test_line OpensIf words
-said word.While words = test_line OpensWhile words
-said word.Count words = var_alone OpensCount words
-said word.Set words = does (var_and_number Set words)
-said word.Add words = does (var_and_number Add words)
-said word.Sub words = does (var_and_number Sub words)
-said word.Neg words = does (var_alone Neg words)
-said word.Double words = does (var_alone Double words)
-said word.Copy words = does (copy_of words)
-said word.Swap words = does (at_end words Swap)
+said word.If words = option_map (λ p. OpensIf p.0 p.1) (test_against_zero words)
+said word.While words = option_map (λ p. OpensWhile p.0 p.1) (test_against_zero words)
+said word.Count words = option_map OpensCount (one_var words)
+said keyword words = option_map Does (statement_of keyword words)
 
 -- what a line with these words says
 unfoldable pub saying_of : Words → Saying

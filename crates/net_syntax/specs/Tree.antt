@@ -49,6 +49,11 @@ joined (Then line statement rest) after = Then line statement (joined rest after
 abbrev pub with_last : {N : Type 0} → Block N → ℕ → Statement N → Block N
 with_last block line statement = joined block (Then line statement Done)
 
+-- the statements of a block as a list, each with its line
+abbrev pub statements_of : {N : Type 0} → Block N → List (ℕ × Statement N)
+statements_of Done = []
+statements_of (Then line statement rest) = (line, statement) ∷ statements_of rest
+
 -- a name as its bytes
 abbrev pub Name : Type 0
 Name = List ℕ

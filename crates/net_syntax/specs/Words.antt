@@ -3,6 +3,10 @@ use Rattle.std.specs.Prelude.{ℕ, ◌+◌, Bool, true, false, ◌||◌, not, Li
 use Rattle.std.specs.List.{take_while}
 use Rattle.tis_base.specs.Lines.{pieces_where, text_lines}
 
+-- a byte that stands before the end of a line
+abbrev pub is_in_line : ℕ → Bool
+is_in_line byte = not (byte == 10)
+
 -- a line as its words
 abbrev pub Words : Type 0
 Words = List (List ℕ)
@@ -19,9 +23,13 @@ abbrev pub is_word : List ℕ → Bool
 is_word [] = false
 is_word (byte ∷ bytes) = true
 
+-- what stands between blanks
+abbrev pub words_in : List ℕ → Words
+words_in bytes = filter is_word (pieces_where is_blank bytes)
+
 -- the words of a line: what stands between blanks, without its comment
 abbrev pub line_words : List ℕ → Words
-line_words line = filter is_word (pieces_where is_blank (before_comment line))
+line_words line = words_in (before_comment line)
 
 -- a line that isn't blank: its number, counted from 1 over all lines, and its words
 pub record Filled : Type 0 where

@@ -2,9 +2,12 @@
 #![tactic(auto)]
 
 mod keyword;
+mod lines;
 mod name;
+mod numeral;
 mod path;
 mod tree;
+mod words;
 
 pub use name::Name;
 pub use path::Path;

@@ -1,6 +1,10 @@
 //! The tree of a network.
 ghost use Rattle.std.specs.Prelude.{◌≡◌, ◌<◌, ◌≤◌, ◌↔◌, [], ◌∷◌, ◌++◌, length, slice_get, Some, IsTrue};
 
+ghost use Rattle.std.specs.Prelude.{OnOk, OnErr};
+ghost use Rattle.net_syntax.specs.Tree.{Done, with_last, statements_of};
+ghost use Rattle.net_syntax.specs.View.{block_view, statement_view};
+
 use crate::name::Name;
 use crate::path::Path;
 use sqlite_items::Items;
@@ -109,16 +113,28 @@ pub struct Net {
 }
 
 impl Block {
-    pub fn new(alloc: Global) -> Block {
-        Block { statements: Items::new(alloc) }
+    /// The block without a statement. It takes no memory.
+    pub fn new(alloc: Global) -> Block
+        ensures { block_view result ≡ Done }
+    {
+        Block {
+            statements: Items::new(alloc),
+        }
     }
 
-    pub fn push(&mut self, statement: Statement, line: usize) -> Result<(), NoMemory> {
+    /// One more statement at the end. Want of memory leaves the block as it was.
+    pub fn push(&mut self, statement: Statement, line: usize) -> Result<(), NoMemory>
+        ensures ok { OnOk result (block_view self.new ≡ with_last (block_view self.old) line (statement_view statement)) }
+        ensures err { OnErr result (block_view self.new ≡ block_view self.old) }
+    {
         self.statements.push(Numbered { statement, line })?;
         Ok(())
     }
 
-    pub fn len(&self) -> usize {
+    /// How many statements there are, without those in their blocks.
+    pub fn len(&self) -> usize
+        ensures { result ≡ length (statements_of (block_view self.now)) }
+    {
         self.statements.len()
     }
 }
