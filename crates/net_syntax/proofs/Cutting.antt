@@ -7,7 +7,7 @@ use Rattle.std.proofs.lemmas.Bool.{and_from, and_parts}
 use Rattle.std.proofs.lemmas.Bool.Decides.{nat_tests}
 use Rattle.tis_base.specs.Lines.{onto_first, pieces_where, without_cr, without_empty_end, text_lines}
 use Rattle.tis_base.proofs.TextLines.{pieces-first, pieces-last, not_is}
-use Rattle.net_syntax.specs.Words.{is_in_line, is_blank, before_comment, is_word, words_in}
+use Rattle.net_syntax.specs.Words.{is_in_line, is_blank_byte, before_comment, is_word, words_in}
 
 -- the longest run in front whose bytes pass, and what stands behind it
 pub record Run (p : ℕ → Bool) (bytes : List ℕ) : Type 0 where
@@ -135,32 +135,32 @@ comment_cut line = let r = run_of (λ byte. not (byte == 35)) line in r.taken �
 
 -- ---- words
 
-blank_gone : (byte : ℕ) (bytes : List ℕ) → is_blank byte ≡ true → words_in (byte ∷ bytes) ≡ words_in bytes
-blank_gone byte bytes is = ap (λ (b : Bool). filter is_word (cond b ([] ∷ pieces_where is_blank bytes) (onto_first byte (pieces_where is_blank bytes)))) is
+blank_gone : (byte : ℕ) (bytes : List ℕ) → is_blank_byte byte ≡ true → words_in (byte ∷ bytes) ≡ words_in bytes
+blank_gone byte bytes is = ap (λ (b : Bool). filter is_word (cond b ([] ∷ pieces_where is_blank_byte bytes) (onto_first byte (pieces_where is_blank_byte bytes)))) is
 
 -- the blanks in front part no words
-blanks_gone : (blanks behind : List ℕ) → list_all is_blank blanks ≡ true → words_in (blanks ++ behind) ≡ words_in behind
+blanks_gone : (blanks behind : List ℕ) → list_all is_blank_byte blanks ≡ true → words_in (blanks ++ behind) ≡ words_in behind
 blanks_gone [] behind all = refl
 blanks_gone (byte ∷ blanks) behind all =
-    let parts = and_parts (is_blank byte) (list_all is_blank blanks) all in
+    let parts = and_parts (is_blank_byte byte) (list_all is_blank_byte blanks) all in
     blank_gone byte (blanks ++ behind) parts.0 ∙ blanks_gone blanks behind parts.1
 
-pub front_gone : (bytes : List ℕ) → words_in bytes ≡ words_in (drop (length (take_while is_blank bytes)) bytes)
+pub front_gone : (bytes : List ℕ) → words_in bytes ≡ words_in (drop (length (take_while is_blank_byte bytes)) bytes)
 front_gone bytes =
-    let r = run_of is_blank bytes in
+    let r = run_of is_blank_byte bytes in
     ap words_in r.split ∙ blanks_gone r.run r.behind r.all ∙ ap words_in (sym r.dropped)
 
 -- what stands behind the blanks begins with a word, or is empty
-pub no_blank : (bytes : List ℕ) → let behind = drop (length (take_while is_blank bytes)) bytes in (behind ≡ []) ⊎ ((byte : ℕ) × (rest : List ℕ) × (behind ≡ byte ∷ rest) × (is_blank byte ≡ false))
+pub no_blank : (bytes : List ℕ) → let behind = drop (length (take_while is_blank_byte bytes)) bytes in (behind ≡ []) ⊎ ((byte : ℕ) × (rest : List ℕ) × (behind ≡ byte ∷ rest) × (is_blank_byte byte ≡ false))
 no_blank bytes =
-    let r = run_of is_blank bytes in
+    let r = run_of is_blank_byte bytes in
     elim r.stops [ inl none ↦ inl (r.dropped ∙ none) | inr more ↦ inr (more.0, more.1, r.dropped ∙ more.2, more.3) ]
 
 abbrev pub in_word : ℕ → Bool
-in_word byte = not (is_blank byte)
+in_word byte = not (is_blank_byte byte)
 
-not_in_word : (byte : ℕ) → in_word byte ≡ false → is_blank byte ≡ true
-not_in_word byte out = by (is_blank byte) out
+not_in_word : (byte : ℕ) → in_word byte ≡ false → is_blank_byte byte ≡ true
+not_in_word byte out = by (is_blank_byte byte) out
   where
     by : (b : Bool) → not b ≡ false → b ≡ true
     by true e = refl
@@ -170,11 +170,11 @@ not_in_word byte out = by (is_blank byte) out
 word_then : (byte : ℕ) (word behind : List ℕ) → list_all in_word (byte ∷ word) ≡ true → ((behind ≡ []) ⊎ ((next : ℕ) × (rest : List ℕ) × (behind ≡ next ∷ rest) × (in_word next ≡ false))) → words_in ((byte ∷ word) ++ behind) ≡ (byte ∷ word) ∷ words_in behind
 word_then byte word behind all (inl none) =
     subst (λ (l : List ℕ). words_in ((byte ∷ word) ++ l) ≡ (byte ∷ word) ∷ words_in l) (sym none)
-    (ap words_in (append-nil (byte ∷ word)) ∙ ap (filter is_word) (pieces-last is_blank (byte ∷ word) all))
+    (ap words_in (append-nil (byte ∷ word)) ∙ ap (filter is_word) (pieces-last is_blank_byte (byte ∷ word) all))
 word_then byte word behind all (inr more) =
     let blank = not_in_word more.0 more.3 in
     subst (λ (l : List ℕ). words_in ((byte ∷ word) ++ l) ≡ (byte ∷ word) ∷ words_in l) (sym more.2)
-    (ap (filter is_word) (pieces-first is_blank (byte ∷ word) more.1 more.0 all blank) ∙ ap (λ (l : List (List ℕ)). (byte ∷ word) ∷ l) (sym (blank_gone more.0 more.1 blank)))
+    (ap (filter is_word) (pieces-first is_blank_byte (byte ∷ word) more.1 more.0 all blank) ∙ ap (λ (l : List (List ℕ)). (byte ∷ word) ∷ l) (sym (blank_gone more.0 more.1 blank)))
 
 -- the word in front, and the words behind it
 pub word_cut : (bytes : List ℕ) → (take (length (take_while in_word bytes)) bytes ≡ [] → ⊥) → words_in bytes ≡ take (length (take_while in_word bytes)) bytes ∷ words_in (drop (length (take_while in_word bytes)) bytes)
@@ -188,7 +188,7 @@ word_cut bytes there =
     by_run (byte ∷ word) behind all stops there = word_then byte word behind all stops
 
 -- where no word stands in front of what begins with no blank, nothing stands there
-pub word_none : (bytes : List ℕ) → ((bytes ≡ []) ⊎ ((byte : ℕ) × (rest : List ℕ) × (bytes ≡ byte ∷ rest) × (is_blank byte ≡ false))) → take (length (take_while in_word bytes)) bytes ≡ [] → words_in bytes ≡ []
+pub word_none : (bytes : List ℕ) → ((bytes ≡ []) ⊎ ((byte : ℕ) × (rest : List ℕ) × (bytes ≡ byte ∷ rest) × (is_blank_byte byte ≡ false))) → take (length (take_while in_word bytes)) bytes ≡ [] → words_in bytes ≡ []
 word_none bytes (inl none) gone = ap words_in none
 word_none bytes (inr more) gone =
     let begins : take_while in_word bytes ≡ more.0 ∷ take_while in_word more.1 = ap (take_while in_word) more.2 ∙ take_while-cons in_word more.0 more.1 ∙ ap (λ (b : Bool). cond (not b) (more.0 ∷ take_while in_word more.1) []) more.3 in
@@ -223,15 +223,15 @@ line_cut bytes line rest front back n n_is front_is back_is line_is rest_is ther
     let others : drop 1 (drop len bytes) ≡ rest = cc in
     text_cut bytes there ∙ ap (λ (l : List ℕ). l ∷ text_lines (drop 1 (drop len bytes))) first ∙ ap (λ (l : List ℕ). line ∷ text_lines l) others
 
-pub word_found : (bytes line word rest : List ℕ) (m n : ℕ) → m ≡ length (take_while is_blank bytes) → line ≡ drop m bytes → n ≡ length (take_while in_word line) → word ≡ take n line → rest ≡ drop n line → (word ≡ [] → ⊥) → words_in bytes ≡ word ∷ words_in rest
+pub word_found : (bytes line word rest : List ℕ) (m n : ℕ) → m ≡ length (take_while is_blank_byte bytes) → line ≡ drop m bytes → n ≡ length (take_while in_word line) → word ≡ take n line → rest ≡ drop n line → (word ≡ [] → ⊥) → words_in bytes ≡ word ∷ words_in rest
 word_found bytes line word rest m n m_is line_is n_is word_is rest_is there =
-    let behind : drop (length (take_while is_blank bytes)) bytes ≡ line = cc in
+    let behind : drop (length (take_while is_blank_byte bytes)) bytes ≡ line = cc in
     let first : take (length (take_while in_word line)) line ≡ word = cc in
     let others : drop (length (take_while in_word line)) line ≡ rest = cc in
     front_gone bytes ∙ ap words_in behind ∙ word_cut line (λ e. there (sym first ∙ e)) ∙ ap (λ (l : List ℕ). l ∷ words_in (drop (length (take_while in_word line)) line)) first ∙ ap (λ (l : List ℕ). word ∷ words_in l) others
 
-pub word_missing : (bytes line word : List ℕ) (m n : ℕ) → m ≡ length (take_while is_blank bytes) → line ≡ drop m bytes → n ≡ length (take_while in_word line) → word ≡ take n line → word ≡ [] → words_in bytes ≡ []
+pub word_missing : (bytes line word : List ℕ) (m n : ℕ) → m ≡ length (take_while is_blank_byte bytes) → line ≡ drop m bytes → n ≡ length (take_while in_word line) → word ≡ take n line → word ≡ [] → words_in bytes ≡ []
 word_missing bytes line word m n m_is line_is n_is word_is none =
-    let behind : drop (length (take_while is_blank bytes)) bytes ≡ line = cc in
+    let behind : drop (length (take_while is_blank_byte bytes)) bytes ≡ line = cc in
     let first : take (length (take_while in_word line)) line ≡ [] = cc in
-    front_gone bytes ∙ ap words_in behind ∙ word_none line (subst (λ (l : List ℕ). (l ≡ []) ⊎ ((byte : ℕ) × (rest : List ℕ) × (l ≡ byte ∷ rest) × (is_blank byte ≡ false))) behind (no_blank bytes)) first
+    front_gone bytes ∙ ap words_in behind ∙ word_none line (subst (λ (l : List ℕ). (l ≡ []) ⊎ ((byte : ℕ) × (rest : List ℕ) × (l ≡ byte ∷ rest) × (is_blank_byte byte ≡ false))) behind (no_blank bytes)) first

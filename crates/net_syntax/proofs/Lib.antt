@@ -1,3 +1,4 @@
 mod Examples
 mod Views
 mod Cutting
+mod Numerals

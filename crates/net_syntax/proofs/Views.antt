@@ -7,8 +7,8 @@ use Rattle.net_syntax.specs.declared.tree.Statement.TheOpen as level
 use Rattle.net_syntax.specs.declared.tree.Statement.TheViews.{roll-Block, roll-Numbered}
 use Rattle.net_syntax.specs.declared.tree.Block as held_block
 use Rattle.net_syntax.specs.declared.tree.Numbered as held_numbered
-use Rattle.net_syntax.specs.Tree.{Name, Statement, Block, Done, Then, joined, with_last, statements_of}
-use Rattle.net_syntax.specs.View.{Numbered, block_of, statement_level, block_level, numbered_level, statement_view, block_view}
+use Rattle.net_syntax.specs.Tree.{Name, Statement, Block, Empty, Then, joined, with_last, statements_of}
+use Rattle.net_syntax.specs.View.{Numbered, block_with, statement_level, block_level, numbered_level, statement_view, block_view}
 
 -- a statement with its line as it is held
 abbrev pub numbered_view : held_numbered.Numbered → Numbered
@@ -18,19 +18,19 @@ pub numbered_seen : (numbered : held_numbered.Numbered) → numbered_view number
 numbered_seen numbered = folds.fold_out-Numbered (Statement Name) (Block Name) Numbered statement_level block_level numbered_level numbered
 
 -- a block is seen as its statements are
-pub block_seen : (block : held_block.Block) → block_view block ≡ block_of (map numbered_view (held_block.out-Block block).statements)
+pub block_seen : (block : held_block.Block) → block_view block ≡ block_with (map numbered_view (held_block.out-Block block).statements)
 block_seen block = folds.fold_out-Block (Statement Name) (Block Name) Numbered statement_level block_level numbered_level block
 
 -- the statements of a block of statements
-pub statements_of-block_of : (items : List Numbered) → statements_of (block_of items) ≡ items
-statements_of-block_of [] = refl
-statements_of-block_of (item ∷ items) = ap (λ (others : List Numbered). item ∷ others) (statements_of-block_of items)
+pub statements_of-block_with : (items : List Numbered) → statements_of (block_with items) ≡ items
+statements_of-block_with [] = refl
+statements_of-block_with (item ∷ items) = ap (λ (others : List Numbered). item ∷ others) (statements_of-block_with items)
 
-pub block_of-with_last : (items : List Numbered) (line : ℕ) (statement : Statement Name) → block_of (items ++ (line, statement) ∷ []) ≡ with_last (block_of items) line statement
-block_of-with_last [] line statement = refl
-block_of-with_last (item ∷ items) line statement = ap (λ (others : Block Name). Then item.0 item.1 others) (block_of-with_last items line statement)
+pub block_with-with_last : (items : List Numbered) (line : ℕ) (statement : Statement Name) → block_with (items ++ (line, statement) ∷ []) ≡ with_last (block_with items) line statement
+block_with-with_last [] line statement = refl
+block_with-with_last (item ∷ items) line statement = ap (λ (others : Block Name). Then item.0 item.1 others) (block_with-with_last items line statement)
 
-pub block_rolled : (block : level.Block-F held.Statement held_block.Block held_numbered.Numbered) → block_view (roll-Block block) ≡ block_of (map numbered_view block.statements)
+pub block_rolled : (block : level.Block-F held.Statement held_block.Block held_numbered.Numbered) → block_view (roll-Block block) ≡ block_with (map numbered_view block.statements)
 block_rolled block = folds.fold-roll-Block (Statement Name) (Block Name) Numbered statement_level block_level numbered_level block
 
 numbered_rolled : (statement : held.Statement) (line : ℕ) → numbered_view (roll-Numbered (record { statement = statement; line = line })) ≡ (line, statement_view statement)
@@ -40,13 +40,13 @@ numbered_rolled statement line = folds.fold-roll-Numbered (Statement Name) (Bloc
 pub block_length : (block : held_block.Block) → length (statements_of (block_view block)) ≡ length (held_block.out-Block block).statements
 block_length block =
     let items = (held_block.out-Block block).statements in
-    ap (λ (b : Block Name). length (statements_of b)) (block_seen block) ∙ ap length (statements_of-block_of (map numbered_view items)) ∙ length-map items numbered_view
+    ap (λ (b : Block Name). length (statements_of b)) (block_seen block) ∙ ap length (statements_of-block_with (map numbered_view items)) ∙ length-map items numbered_view
 
 -- a block with one more statement
 pub block_pushed : (block : held_block.Block) (new : List held_numbered.Numbered) (statement : held.Statement) (line : ℕ) → new ≡ (held_block.out-Block block).statements ++ roll-Numbered (record { statement = statement; line = line }) ∷ [] → block_view (roll-Block (record { statements = new })) ≡ with_last (block_view block) line (statement_view statement)
 block_pushed block new statement line is =
     let items = (held_block.out-Block block).statements in
     let last : held_numbered.Numbered = roll-Numbered (record { statement = statement; line = line }) in
-    block_rolled (record { statements = new }) ∙ ap (λ (n : List held_numbered.Numbered). block_of (map numbered_view n)) is ∙ ap block_of (map-append numbered_view items (last ∷ []))
-    ∙ ap (λ (n : Numbered). block_of (map numbered_view items ++ n ∷ [])) (numbered_rolled statement line) ∙ block_of-with_last (map numbered_view items) line (statement_view statement)
+    block_rolled (record { statements = new }) ∙ ap (λ (n : List held_numbered.Numbered). block_with (map numbered_view n)) is ∙ ap block_with (map-append numbered_view items (last ∷ []))
+    ∙ ap (λ (n : Numbered). block_with (map numbered_view items ++ n ∷ [])) (numbered_rolled statement line) ∙ block_with-with_last (map numbered_view items) line (statement_view statement)
     ∙ ap (λ (b : Block Name). with_last b line (statement_view statement)) (sym (block_seen block))

@@ -1,9 +1,10 @@
 pub mod Names
 pub mod Tree
 pub mod Words
-pub mod Sayings
+pub mod Forms
 pub mod Grammar
-pub mod Outcome
+pub mod Reading
 pub mod NetText
 pub mod View
 pub mod Reads
+pub mod FormView

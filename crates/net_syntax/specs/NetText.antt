@@ -10,7 +10,7 @@ use Rattle.net_syntax.specs.declared.tree.Var.{Var}
 use Rattle.net_syntax.specs.declared.tree.Var.TheVariants.{X, Y}
 use Rattle.net_syntax.specs.declared.tree.Test.{Test}
 use Rattle.net_syntax.specs.declared.tree.Test.TheVariants.{Zero, NotZero, Negative, Positive, NotPositive, NotNegative}
-use Rattle.net_syntax.specs.Tree.{Name, Statement, Get, GetAdd, GetSub, Put, PutNumber, Move, Set, Add, Sub, Neg, Double, Copy, Swap, If, While, Count, Block, Done, Then, Port, Channel, Process, Net}
+use Rattle.net_syntax.specs.Tree.{Name, Statement, Get, GetAdd, GetSub, Put, PutNumber, Move, Set, Add, Sub, Neg, Double, Copy, Swap, If, While, Count, Block, Empty, Then, PortLine, ChannelLine, ProcessText, Net}
 use Rattle.net_syntax.specs.Words.{Words}
 
 abbrev pub kind_letter : TileKind → ℕ
@@ -37,10 +37,10 @@ abbrev pub at_words : Option ℕ → Words
 at_words None = []
 at_words (Some tile) = codes "at" ∷ decimal tile ∷ []
 
-abbrev pub port_line : List ℕ → Port → Words
+abbrev pub port_line : List ℕ → PortLine → Words
 port_line side port = side ∷ port.name ∷ codes "at" ∷ decimal port.position ∷ via_words port.via
 
-abbrev pub channel_line : Channel → Words
+abbrev pub channel_line : ChannelLine → Words
 channel_line channel = codes "channel" ∷ channel.name ∷ via_words channel.via
 
 abbrev pub process_line : Name → Option ℕ → Words
@@ -83,7 +83,7 @@ statement_line (Count var body) = codes "count" ∷ var_word var ∷ []
 abbrev mutual
   -- the lines of the statements of a block, one after the other
   pub block_lines : Block Name → List Words
-  block_lines Done = []
+  block_lines Empty = []
   block_lines (Then line statement rest) = (statement_line statement ∷ inner_lines statement) ++ block_lines rest
 
   -- what stands behind the first line of a statement: nothing, or its blocks and `end`
@@ -95,10 +95,10 @@ abbrev mutual
 
   -- `else` and the second block, where it has statements
   pub else_lines : Block Name → List Words
-  else_lines Done = []
+  else_lines Empty = []
   else_lines (Then line statement rest) = (codes "else" ∷ []) ∷ ((statement_line statement ∷ inner_lines statement) ++ block_lines rest)
 
-abbrev pub process_lines : Process → List Words
+abbrev pub process_lines : ProcessText → List Words
 process_lines process = (process_line process.name process.at ∷ block_lines process.body) ++ end_line ∷ []
 
 -- the version, the tiles, the inputs, the outputs, the channels and the processes

@@ -17,11 +17,11 @@ mutual
     PutNumber : (written : N) → (number : ℤ) → Statement N
     -- reads a value and sends it on
     Move : (read : N) → (written : N) → Statement N
-    -- a number becomes the value of a variable, or is added to it, or subtracted from it
+    -- a number becomes the value of a variable, or is with_whole to it, or subtracted from it
     Set : (var : Var) → (number : ℤ) → Statement N
     Add : (var : Var) → (number : ℤ) → Statement N
     Sub : (var : Var) → (number : ℤ) → Statement N
-    -- a variable gets the other sign, or is added to itself
+    -- a variable gets the other sign, or is with_whole to itself
     Neg : (var : Var) → Statement N
     Double : (var : Var) → Statement N
     -- the first variable gets the value of the second
@@ -37,21 +37,21 @@ mutual
 
   -- statements in order, each with the number of its line
   pub data Block (N : Type 0) : Type 0 where
-    Done : Block N
+    Empty : Block N
     Then : (line : ℕ) → (statement : Statement N) → (rest : Block N) → Block N
 
 -- the statements of one block, and then those of another
 abbrev pub joined : {N : Type 0} → Block N → Block N → Block N
-joined Done after = after
+joined Empty after = after
 joined (Then line statement rest) after = Then line statement (joined rest after)
 
 -- one more statement at the end
 abbrev pub with_last : {N : Type 0} → Block N → ℕ → Statement N → Block N
-with_last block line statement = joined block (Then line statement Done)
+with_last block line statement = joined block (Then line statement Empty)
 
 -- the statements of a block as a list, each with its line
 abbrev pub statements_of : {N : Type 0} → Block N → List (ℕ × Statement N)
-statements_of Done = []
+statements_of Empty = []
 statements_of (Then line statement rest) = (line, statement) ∷ statements_of rest
 
 -- a name as its bytes
@@ -59,20 +59,20 @@ abbrev pub Name : Type 0
 Name = List ℕ
 
 -- an input or an output at a position, and the tiles that its link passes, where it is pinned
-pub record Port : Type 0 where
+pub record PortLine : Type 0 where
   pub name : Name
   pub position : ℕ
   pub via : Option (List ℕ)
   pub line : ℕ
 
 -- a channel, and the tiles that its link passes, where it is pinned
-pub record Channel : Type 0 where
+pub record ChannelLine : Type 0 where
   pub name : Name
   pub via : Option (List ℕ)
   pub line : ℕ
 
 -- a process, its tile, where it is pinned, and what it does round after round
-pub record Process : Type 0 where
+pub record ProcessText : Type 0 where
   pub name : Name
   pub at : Option ℕ
   pub body : Block Name
@@ -82,60 +82,60 @@ pub record Process : Type 0 where
 pub record Net : Type 0 where
   pub version : ℕ
   pub tiles : Tiles
-  pub inputs : List Port
-  pub outputs : List Port
-  pub channels : List Channel
-  pub processes : List Process
+  pub inputs : List PortLine
+  pub outputs : List PortLine
+  pub channels : List ChannelLine
+  pub processes : List ProcessText
 
 -- why a text is no network, with the number of a line
-pub data Refusal : Type 0 where
-  BadLine : (line : ℕ) → Refusal
-  TooDeep : (line : ℕ) → Refusal
-  StrayEnd : (line : ℕ) → Refusal
-  Unclosed : (line : ℕ) → Refusal
+pub data NetRefusal : Type 0 where
+  BadLine : (line : ℕ) → NetRefusal
+  TooDeep : (line : ℕ) → NetRefusal
+  StrayEnd : (line : ℕ) → NetRefusal
+  Unclosed : (line : ℕ) → NetRefusal
 
 -- ---- up to lines
 
 abbrev mutual
   -- a statement without its lines
-  pub statement_alone : {N : Type 0} → Statement N → Statement N
-  statement_alone (Get read var) = Get read var
-  statement_alone (GetAdd read var) = GetAdd read var
-  statement_alone (GetSub read var) = GetSub read var
-  statement_alone (Put written var) = Put written var
-  statement_alone (PutNumber written number) = PutNumber written number
-  statement_alone (Move read written) = Move read written
-  statement_alone (Set var number) = Set var number
-  statement_alone (Add var number) = Add var number
-  statement_alone (Sub var number) = Sub var number
-  statement_alone (Neg var) = Neg var
-  statement_alone (Double var) = Double var
-  statement_alone (Copy to from) = Copy to from
-  statement_alone Swap = Swap
-  statement_alone (If var test first second) = If var test (block_alone first) (block_alone second)
-  statement_alone (While var test body) = While var test (block_alone body)
-  statement_alone (Count var body) = Count var (block_alone body)
+  pub statement_without_lines : {N : Type 0} → Statement N → Statement N
+  statement_without_lines (Get read var) = Get read var
+  statement_without_lines (GetAdd read var) = GetAdd read var
+  statement_without_lines (GetSub read var) = GetSub read var
+  statement_without_lines (Put written var) = Put written var
+  statement_without_lines (PutNumber written number) = PutNumber written number
+  statement_without_lines (Move read written) = Move read written
+  statement_without_lines (Set var number) = Set var number
+  statement_without_lines (Add var number) = Add var number
+  statement_without_lines (Sub var number) = Sub var number
+  statement_without_lines (Neg var) = Neg var
+  statement_without_lines (Double var) = Double var
+  statement_without_lines (Copy to from) = Copy to from
+  statement_without_lines Swap = Swap
+  statement_without_lines (If var test first second) = If var test (block_without_lines first) (block_without_lines second)
+  statement_without_lines (While var test body) = While var test (block_without_lines body)
+  statement_without_lines (Count var body) = Count var (block_without_lines body)
 
   -- a block with 0 in place of each line
-  pub block_alone : {N : Type 0} → Block N → Block N
-  block_alone Done = Done
-  block_alone (Then line statement rest) = Then 0 (statement_alone statement) (block_alone rest)
+  pub block_without_lines : {N : Type 0} → Block N → Block N
+  block_without_lines Empty = Empty
+  block_without_lines (Then line statement rest) = Then 0 (statement_without_lines statement) (block_without_lines rest)
 
-abbrev pub port_alone : Port → Port
-port_alone port = record port { line = 0 }
+abbrev pub port_without_line : PortLine → PortLine
+port_without_line port = record port { line = 0 }
 
-abbrev pub channel_alone : Channel → Channel
-channel_alone channel = record channel { line = 0 }
+abbrev pub channel_without_line : ChannelLine → ChannelLine
+channel_without_line channel = record channel { line = 0 }
 
-abbrev pub process_alone : Process → Process
-process_alone process = record process { body = block_alone process.body; line = 0 }
+abbrev pub process_without_lines : ProcessText → ProcessText
+process_without_lines process = record process { body = block_without_lines process.body; line = 0 }
 
 -- a network without its lines: with 0 in place of each
-abbrev pub net_alone : Net → Net
-net_alone net =
+abbrev pub net_without_lines : Net → Net
+net_without_lines net =
     record net {
-      inputs = map port_alone net.inputs;
-      outputs = map port_alone net.outputs;
-      channels = map channel_alone net.channels;
-      processes = map process_alone net.processes;
+      inputs = map port_without_line net.inputs;
+      outputs = map port_without_line net.outputs;
+      channels = map channel_without_line net.channels;
+      processes = map process_without_lines net.processes;
     }

@@ -8,16 +8,16 @@ use Rattle.net_syntax.specs.declared.tree.PortLine as held_port
 use Rattle.net_syntax.specs.declared.tree.ChannelLine as held_channel
 use Rattle.net_syntax.specs.declared.tree.ProcessText as held_process
 use Rattle.net_syntax.specs.declared.tree.Net as held_net
-use Rattle.net_syntax.specs.Tree.{Name, Statement, Get, GetAdd, GetSub, Put, PutNumber, Move, Set, Add, Sub, Neg, Double, Copy, Swap, If, While, Count, Block, Done, Then, Port, Channel, Process, Net}
+use Rattle.net_syntax.specs.Tree.{Name, Statement, Get, GetAdd, GetSub, Put, PutNumber, Move, Set, Add, Sub, Neg, Double, Copy, Swap, If, While, Count, Block, Empty, Then, PortLine, ChannelLine, ProcessText, Net}
 
 -- a statement with the number of its line
 abbrev pub Numbered : Type 0
 Numbered = ℕ × Statement Name
 
 -- the block of these statements
-abbrev pub block_of : List Numbered → Block Name
-block_of [] = Done
-block_of (first ∷ others) = Then first.0 first.1 (block_of others)
+abbrev pub block_with : List Numbered → Block Name
+block_with [] = Empty
+block_with (first ∷ others) = Then first.0 first.1 (block_with others)
 
 -- one level of a statement, of a block and of a statement with its line, where what they hold is seen already
 abbrev pub statement_level : level.Statement-F (Statement Name) (Block Name) Numbered → Statement Name
@@ -39,7 +39,7 @@ statement_level (level.While var test body) = While var test body
 statement_level (level.Count var body) = Count var body
 
 abbrev pub block_level : level.Block-F (Statement Name) (Block Name) Numbered → Block Name
-block_level block = block_of block.statements
+block_level block = block_with block.statements
 
 abbrev pub numbered_level : level.Numbered-F (Statement Name) (Block Name) Numbered → Numbered
 numbered_level numbered = (numbered.line, numbered.statement)
@@ -53,15 +53,15 @@ abbrev pub block_view : held_block.Block → Block Name
 block_view = folds.fold-Block (Statement Name) (Block Name) Numbered statement_level block_level numbered_level
 
 -- an input or an output as it is held
-abbrev pub port_view : held_port.PortLine → Port
+abbrev pub port_view : held_port.PortLine → PortLine
 port_view port = record { name = port.name; position = port.position; via = port.via; line = port.line }
 
 -- a channel as it is held
-abbrev pub channel_view : held_channel.ChannelLine → Channel
+abbrev pub channel_view : held_channel.ChannelLine → ChannelLine
 channel_view channel = record { name = channel.name; via = channel.via; line = channel.line }
 
 -- a process as it is held
-abbrev pub process_view : held_process.ProcessText → Process
+abbrev pub process_view : held_process.ProcessText → ProcessText
 process_view process = record { name = process.name; at = process.at; body = block_view process.body; line = process.line }
 
 -- a network as it is held

@@ -12,8 +12,8 @@ abbrev pub Words : Type 0
 Words = List (List ℕ)
 
 -- a blank or a tab
-abbrev pub is_blank : ℕ → Bool
-is_blank byte = byte == 32 || byte == 9
+abbrev pub is_blank_byte : ℕ → Bool
+is_blank_byte byte = byte == 32 || byte == 9
 
 -- what stands before the first `#`
 abbrev pub before_comment : List ℕ → List ℕ
@@ -25,27 +25,27 @@ is_word (byte ∷ bytes) = true
 
 -- what stands between blanks
 abbrev pub words_in : List ℕ → Words
-words_in bytes = filter is_word (pieces_where is_blank bytes)
+words_in bytes = filter is_word (pieces_where is_blank_byte bytes)
 
 -- the words of a line: what stands between blanks, without its comment
 abbrev pub line_words : List ℕ → Words
 line_words line = words_in (before_comment line)
 
 -- a line that isn't blank: its number, counted from 1 over all lines, and its words
-pub record Filled : Type 0 where
+pub record NonBlank : Type 0 where
   pub number : ℕ
   pub words : Words
 
 -- a line with its number before the others, where it has words
-abbrev pub filled_before : ℕ → Words → List Filled → List Filled
-filled_before number [] lines = lines
-filled_before number (word ∷ words) lines = record { number = number; words = word ∷ words } ∷ lines
+abbrev pub non_blank_before : ℕ → Words → List NonBlank → List NonBlank
+non_blank_before number [] lines = lines
+non_blank_before number (word ∷ words) lines = record { number = number; words = word ∷ words } ∷ lines
 
 -- the lines that aren't blank, where the first line has this number
-abbrev pub filled_from : ℕ → List (List ℕ) → List Filled
-filled_from number [] = []
-filled_from number (line ∷ lines) = filled_before number (line_words line) (filled_from (number + 1) lines)
+abbrev pub non_blank_from : ℕ → List (List ℕ) → List NonBlank
+non_blank_from number [] = []
+non_blank_from number (line ∷ lines) = non_blank_before number (line_words line) (non_blank_from (number + 1) lines)
 
 -- the lines of a text that aren't blank; a line that has only a comment is blank
-abbrev pub filled_lines : List ℕ → List Filled
-filled_lines text = filled_from 1 (text_lines text)
+abbrev pub non_blank_lines : List ℕ → List NonBlank
+non_blank_lines text = non_blank_from 1 (text_lines text)

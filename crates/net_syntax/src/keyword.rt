@@ -1,6 +1,6 @@
 //! The words that lines begin with.
 ghost use Rattle.std.specs.Prelude.{◌≡◌};
-ghost use Rattle.net_syntax.specs.Sayings.{frame_keyword as frame_word, statement_keyword as statement_word, variable_keyword as variable_word, keyword_of as word_of};
+ghost use Rattle.net_syntax.specs.Forms.{frame_keyword as frame_word, statement_keyword as statement_word, variable_keyword as variable_word, keyword_of as word_of};
 
 use crate::words::is;
 
@@ -106,7 +106,7 @@ fn variable_keyword(word: &[u8]) -> Option<Keyword>
 }
 
 /// The keyword that a word is, or None where it is none.
-#[tactic(auto, unfolding(crate::specs::Sayings::keyword_of))]
+#[tactic(auto, unfolding(crate::specs::Forms::keyword_of))]
 pub(crate) fn keyword_of(word: &[u8]) -> Option<Keyword>
     ensures { result ≡ word_of word.now }
 {

@@ -6,6 +6,7 @@ mod lines;
 mod name;
 mod numeral;
 mod path;
+mod form;
 mod tree;
 mod words;
 

@@ -1,7 +1,7 @@
 //! Numbers as words.
 ghost use Rattle.std.specs.Prelude.{◌≡◌, ◌≤◌, IfSome};
 ghost use Rattle.net_syntax.specs.Reads.{Found};
-ghost use Rattle.net_syntax.specs.Sayings.{digit, number_of as spelled_number, value_of as spelled_value};
+ghost use Rattle.net_syntax.specs.Forms.{digit, number_of as spelled_number, value_of as spelled_value};
 
 use tis_base::Value;
 
@@ -37,12 +37,13 @@ pub(crate) fn number_of(word: &[u8], most: u16) -> Option<u16>
 }
 
 /// The value that a word spells: digits, which a `-` may stand before.
-#[tactic(auto, unfolding(crate::specs::Sayings::value_of))]
+#[tactic(auto, unfolding(crate::specs::Forms::value_of))]
 pub(crate) fn value_of(word: &[u8]) -> Option<Value>
     ensures { Found (λ v. v) result (spelled_value word.now) }
 {
     match word {
+        [] => None,
         [b'-', digits @ ..] => Some(Value::clamp(-i64::from(number_of(digits, 999)?))),
-        _ => Some(Value::clamp(i64::from(number_of(word, 999)?))),
+        [_, ..] => Some(Value::clamp(i64::from(number_of(word, 999)?))),
     }
 }

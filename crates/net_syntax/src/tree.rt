@@ -2,7 +2,7 @@
 ghost use Rattle.std.specs.Prelude.{◌≡◌, ◌<◌, ◌≤◌, ◌↔◌, [], ◌∷◌, ◌++◌, length, slice_get, Some, IsTrue};
 
 ghost use Rattle.std.specs.Prelude.{OnOk, OnErr};
-ghost use Rattle.net_syntax.specs.Tree.{Done, with_last, statements_of};
+ghost use Rattle.net_syntax.specs.Tree.{Empty, with_last, statements_of};
 ghost use Rattle.net_syntax.specs.View.{block_view, statement_view};
 
 use crate::name::Name;
@@ -115,7 +115,7 @@ pub struct Net {
 impl Block {
     /// The block without a statement. It takes no memory.
     pub fn new(alloc: Global) -> Block
-        ensures { block_view result ≡ Done }
+        ensures { block_view result ≡ Empty }
     {
         Block {
             statements: Items::new(alloc),

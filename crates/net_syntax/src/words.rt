@@ -2,7 +2,7 @@
 ghost use Rattle.std.specs.Prelude.{◌≡◌, ◌∷◌, [], length, not, MatchOption, Option, Some, None};
 ghost use Rattle.std.specs.List.{take_while};
 ghost use Rattle.std.specs.Str.{bytes_eq};
-ghost use Rattle.net_syntax.specs.Words.{is_blank as is_blank_byte, words_in, line_words};
+ghost use Rattle.net_syntax.specs.Words.{is_blank_byte, words_in, line_words};
 
 use crate::lines::without_comment;
 use std::marker::Model;

@@ -16,30 +16,30 @@ use Rattle.net_syntax.specs.declared.keyword.Keyword.{Keyword}
 use Rattle.net_syntax.specs.declared.keyword.Keyword.TheVariants as word
 use Rattle.net_syntax.specs.Names.{is_name}
 use Rattle.net_syntax.specs.Tree.{Name, Statement, Get, GetAdd, GetSub, Put, PutNumber, Move, Set, Add, Sub, Neg, Double, Copy, Swap}
-use Rattle.net_syntax.specs.Words.{Words, Filled, filled_lines}
+use Rattle.net_syntax.specs.Words.{Words, NonBlank, non_blank_lines}
 
 -- what a line says
-pub data Saying : Type 0 where
+pub data LineForm : Type 0 where
   -- the first line
-  Version : Saying
+  Version : LineForm
   -- the second line
-  Bench : (tiles : Tiles) → Saying
+  TilesLine : (tiles : Tiles) → LineForm
   -- declarations
-  Input : (name : Name) → (position : ℕ) → (via : Option (List ℕ)) → Saying
-  Output : (name : Name) → (position : ℕ) → (via : Option (List ℕ)) → Saying
-  Channel : (name : Name) → (via : Option (List ℕ)) → Saying
-  Process : (name : Name) → (at : Option ℕ) → Saying
+  Input : (name : Name) → (position : ℕ) → (via : Option (List ℕ)) → LineForm
+  Output : (name : Name) → (position : ℕ) → (via : Option (List ℕ)) → LineForm
+  Channel : (name : Name) → (via : Option (List ℕ)) → LineForm
+  Process : (name : Name) → (at : Option ℕ) → LineForm
   -- a statement without a block
-  Does : (statement : Statement Name) → Saying
+  Simple : (statement : Statement Name) → LineForm
   -- the first line of a statement with blocks
-  OpensIf : (var : Var) → (test : Test) → Saying
-  OpensWhile : (var : Var) → (test : Test) → Saying
-  OpensCount : (var : Var) → Saying
+  OpensIf : (var : Var) → (test : Test) → LineForm
+  OpensWhile : (var : Var) → (test : Test) → LineForm
+  OpensCount : (var : Var) → LineForm
   -- the line between two blocks, and the line behind a block or a process
-  Else : Saying
-  End : Saying
+  Else : LineForm
+  End : LineForm
   -- anything else
-  Wrong : Saying
+  Malformed : LineForm
 
 -- ---- words
 
@@ -214,7 +214,7 @@ test_against_zero words = do
   at_end zero.1 (var.0, test.0)
 
 -- the first line has `1` behind its word
-unfoldable pub version_of : Words → Option Saying
+unfoldable pub version_of : Words → Option LineForm
 version_of words = do
   version ← next_word (exactly (codes "1")) words
   at_end version.1 Version
@@ -302,9 +302,9 @@ statement_of word.Swap words = at_end words Swap
 statement_of keyword words = None
 
 -- what a line says, by the words behind its first word
-unfoldable pub said : Keyword → Words → Option Saying
+unfoldable pub said : Keyword → Words → Option LineForm
 said word.Net words = version_of words
-said word.Tiles words = option_map Bench (tiles_of words)
+said word.Tiles words = option_map TilesLine (tiles_of words)
 said word.Input words = option_map (λ p. Input p.0 p.1 p.2) (port_of words)
 said word.Output words = option_map (λ p. Output p.0 p.1 p.2) (port_of words)
 said word.Channel words = option_map (λ p. Channel p.0 p.1) (channel_of words)
@@ -314,31 +314,31 @@ said word.End words = at_end words End
 said word.If words = option_map (λ p. OpensIf p.0 p.1) (test_against_zero words)
 said word.While words = option_map (λ p. OpensWhile p.0 p.1) (test_against_zero words)
 said word.Count words = option_map OpensCount (one_var words)
-said keyword words = option_map Does (statement_of keyword words)
+said keyword words = option_map Simple (statement_of keyword words)
 
 -- what a line with these words says
-unfoldable pub saying_of : Words → Saying
-saying_of [] = Wrong
-saying_of (text ∷ words) = unwrap_or (option_and_then (λ keyword. said keyword words) (keyword_of text)) Wrong
+unfoldable pub form_of : Words → LineForm
+form_of [] = Malformed
+form_of (text ∷ words) = unwrap_or (option_and_then (λ keyword. said keyword words) (keyword_of text)) Malformed
 
 -- ---- the lines of a text
 
 -- a line that isn't blank: its number, and what it says
 pub record Line : Type 0 where
   pub number : ℕ
-  pub says : Saying
+  pub form : LineForm
 
-abbrev pub line_of : Filled → Line
-line_of filled = record { number = filled.number; says = saying_of filled.words }
+abbrev pub line_of : NonBlank → Line
+line_of filled = record { number = filled.number; form = form_of filled.words }
 
 -- a line past the last one that a network may have is wrong, whatever it holds
-abbrev pub line_past : Filled → Line
-line_past filled = record { number = filled.number; says = Wrong }
+abbrev pub line_past : NonBlank → Line
+line_past filled = record { number = filled.number; form = Malformed }
 
 -- at most so many lines say something
-abbrev pub lines_up_to : ℕ → List Filled → List Line
+abbrev pub lines_up_to : ℕ → List NonBlank → List Line
 lines_up_to most filled = map line_of (take most filled) ++ map line_past (drop most filled)
 
 -- the lines of a text that aren't blank, of which at most 65,535 say something
 unfoldable pub lines_of : List ℕ → List Line
-lines_of text = lines_up_to 65535 (filled_lines text)
+lines_of text = lines_up_to 65535 (non_blank_lines text)
