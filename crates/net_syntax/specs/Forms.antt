@@ -53,7 +53,7 @@ read >>= next = followed_by read next
 
 -- a word with exactly these bytes
 abbrev pub exactly : List ℕ → List ℕ → Option (List ℕ)
-exactly expected word = if bytes_eq word expected then Some word else None
+exactly expected word = if bytes_eq word expected then Some expected else None
 
 -- a word that is a name
 abbrev pub name_of : List ℕ → Option Name

@@ -1,9 +1,9 @@
 //! What a line says by itself.
-ghost use Rattle.std.specs.Prelude.{◌≡◌, option_map, IsTrue, ◌↔◌, []};
-ghost use Rattle.net_syntax.specs.Reads.{Reads, Passes, Found};
+ghost use Rattle.std.specs.Prelude.{◌≡◌, option_map, MatchOption, []};
+ghost use Rattle.net_syntax.specs.Reads.{Reads, Passes, Found, IsMore};
 ghost use Rattle.net_syntax.specs.FormView.{form_view};
 ghost use Rattle.net_syntax.specs.View.{statement_view};
-ghost use Rattle.net_syntax.specs.Forms.{exactly, var_of as var_word, test_of as test_word, value_of as spelled_value, number_of as spelled_number, name_of, next_word, name_and_var as name_then_var, put_of as put_said, sent_on as sent_by, two_names as both_names, var_and_number as var_then_number, one_var as var_alone, two_vars as both_vars, test_against_zero as tested, statement_of as statement_said};
+ghost use Rattle.net_syntax.specs.Forms.{exactly, var_of as var_word, test_of as test_word, value_of as spelled_value, number_of as spelled_number, name_of, next_word, at_end, via_of as via_said, path_of as path_said, at_of as at_said, port_of as port_said, channel_of as channel_said, process_of as process_said, name_and_var as name_then_var, put_of as put_said, sent_on as sent_by, two_names as both_names, var_and_number as var_then_number, one_var as var_alone, two_vars as both_vars, test_against_zero as tested, statement_of as statement_said, version_of as version_said, row_of as row_said, tiles_of as tiles_said, kind_of as kind_said, said as form_said, form_of as form_written};
 
 use crate::keyword::Keyword;
 use crate::name::Name;
@@ -105,8 +105,127 @@ fn next_value(words: &mut Words<'_>) -> Option<Value>
 // The next word is exactly this text.
 #[tactic(auto, unfolding(crate::specs::Forms::next_word))]
 fn next_text(words: &mut Words<'_>, text: &[u8]) -> Option<()>
-    ensures { Passes result words.new (next_word (exactly text.now) words.old) }
+    ensures { Passes result words.new text.now (next_word (exactly text.now) words.old) }
 {
     let word = words.next()?;
     if is(word, text) { Some(()) } else { None }
+}
+
+// Nothing stands behind.
+fn end(words: &mut Words<'_>) -> Option<()>
+    ensures { MatchOption result (IsMore words.old) (λ _. words.old ≡ []) }
+{
+    match words.next() {
+        Some(_) => None,
+        None => Some(()),
+    }
+}
+
+// A name and a variable.
+#[tactic(auto, unfolding(crate::specs::Forms::name_and_var, crate::specs::Forms::followed_by, crate::specs::Forms::at_end))]
+fn name_and_var(words: &mut Words<'_>) -> Option<(Name, Var)>
+    ensures { Found (λ p. p) result (name_then_var words.old) }
+{
+    let name = next_name(words)?;
+    let var = next_var(words)?;
+    end(words)?;
+    Some((name, var))
+}
+
+// Two names.
+#[tactic(auto, unfolding(crate::specs::Forms::two_names, crate::specs::Forms::followed_by, crate::specs::Forms::at_end))]
+fn two_names(words: &mut Words<'_>) -> Option<(Name, Name)>
+    ensures { Found (λ p. p) result (both_names words.old) }
+{
+    let first = next_name(words)?;
+    let second = next_name(words)?;
+    end(words)?;
+    Some((first, second))
+}
+
+// A variable and a number.
+#[tactic(auto, unfolding(crate::specs::Forms::var_and_number, crate::specs::Forms::followed_by, crate::specs::Forms::at_end))]
+fn var_and_number(words: &mut Words<'_>) -> Option<(Var, Value)>
+    ensures { Found (λ p. p) result (var_then_number words.old) }
+{
+    let var = next_var(words)?;
+    let number = next_value(words)?;
+    end(words)?;
+    Some((var, number))
+}
+
+// A variable alone.
+#[tactic(auto, unfolding(crate::specs::Forms::one_var, crate::specs::Forms::followed_by, crate::specs::Forms::at_end))]
+fn one_var(words: &mut Words<'_>) -> Option<Var>
+    ensures { Found (λ p. p) result (var_alone words.old) }
+{
+    let var = next_var(words)?;
+    end(words)?;
+    Some(var)
+}
+
+// Two variables.
+#[tactic(auto, unfolding(crate::specs::Forms::two_vars, crate::specs::Forms::followed_by, crate::specs::Forms::at_end))]
+fn two_vars(words: &mut Words<'_>) -> Option<(Var, Var)>
+    ensures { Found (λ p. p) result (both_vars words.old) }
+{
+    let first = next_var(words)?;
+    let second = next_var(words)?;
+    end(words)?;
+    Some((first, second))
+}
+
+// A variable, how it is compared, and `0`.
+#[tactic(auto, unfolding(crate::specs::Forms::test_against_zero, crate::specs::Forms::followed_by, crate::specs::Forms::at_end))]
+fn test_against_zero(words: &mut Words<'_>) -> Option<(Var, Test)>
+    ensures { Found (λ p. p) result (tested words.old) }
+{
+    let var = next_var(words)?;
+    let test = next_test(words)?;
+    next_text(words, b"0")?;
+    end(words)?;
+    Some((var, test))
+}
+
+// What is sent on a name: a variable or a number.
+fn sent_on(name: Name, word: &[u8]) -> Option<Statement>
+    ensures { Found statement_view result (sent_by name word.now) }
+{
+    match var_of(word) {
+        Some(var) => Some(Statement::Put(name, var)),
+        None => Some(Statement::PutNumber(name, value_of(word)?)),
+    }
+}
+
+// A name, and what is sent on it.
+#[tactic(auto, unfolding(crate::specs::Forms::put_of, crate::specs::Forms::followed_by, crate::specs::Forms::next_word, crate::specs::Forms::at_end))]
+fn put_of(words: &mut Words<'_>) -> Option<Statement>
+    ensures { Found statement_view result (put_said words.old) }
+{
+    let name = next_name(words)?;
+    let statement = sent_on(name, words.next()?)?;
+    end(words)?;
+    Some(statement)
+}
+
+// A statement without a block, by the words behind its first word.
+#[tactic(auto, unfolding(crate::specs::Forms::statement_of, crate::specs::Forms::at_end))]
+fn statement_of(keyword: Keyword, words: &mut Words<'_>) -> Option<Statement>
+    ensures { Found statement_view result (statement_said keyword words.old) }
+{
+    match keyword {
+        Keyword::Get => name_and_var(words).map(|(name, var)| Statement::Get(name, var)),
+        Keyword::GetAdd => name_and_var(words).map(|(name, var)| Statement::GetAdd(name, var)),
+        Keyword::GetSub => name_and_var(words).map(|(name, var)| Statement::GetSub(name, var)),
+        Keyword::Put => put_of(words),
+        Keyword::Move => two_names(words).map(|(read, written)| Statement::Move(read, written)),
+        Keyword::Set => var_and_number(words).map(|(var, number)| Statement::Set(var, number)),
+        Keyword::Add => var_and_number(words).map(|(var, number)| Statement::Add(var, number)),
+        Keyword::Sub => var_and_number(words).map(|(var, number)| Statement::Sub(var, number)),
+        Keyword::Neg => one_var(words).map(|var| Statement::Neg(var)),
+        Keyword::Double => one_var(words).map(|var| Statement::Double(var)),
+        Keyword::Copy => two_vars(words).map(|(to, from)| Statement::Copy(to, from)),
+        Keyword::Swap => end(words).map(|_| Statement::Swap),
+        _ => None,
+    }
 }
