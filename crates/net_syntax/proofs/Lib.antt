@@ -2,3 +2,5 @@ mod Examples
 mod Views
 mod Cutting
 mod Numerals
+mod Paths
+mod Reversed

@@ -1,6 +1,9 @@
 -- What contracts see of what a line says.
 use Rattle.net_syntax.specs.declared.form.LineForm as held
 use Rattle.net_syntax.specs.declared.form.LineForm.TheVariants as held_as
+use Rattle.std.specs.Prelude.{List, [], ◌∷◌}
+use Rattle.tis_base.specs.declared.tiles.TileKind.{TileKind}
+use Rattle.net_syntax.specs.declared.form.Row.{Row}
 use Rattle.net_syntax.specs.Forms.{LineForm, Version, TilesLine, Input, Output, Channel, Process, Simple, OpensIf, OpensWhile, OpensCount, Else, End, Malformed}
 use Rattle.net_syntax.specs.View.{statement_view}
 
@@ -19,3 +22,7 @@ form_view (held_as.OpensCount var) = OpensCount var
 form_view held_as.Else = Else
 form_view held_as.End = End
 form_view held_as.Malformed = Malformed
+
+-- a row of tiles as it is held
+abbrev pub row_view : Row → List TileKind
+row_view row = row.first ∷ row.second ∷ row.third ∷ row.fourth ∷ []

@@ -8,3 +8,4 @@ pub mod NetText
 pub mod View
 pub mod Reads
 pub mod FormView
+pub mod ReaderView

@@ -6,10 +6,13 @@ mod lines;
 mod name;
 mod numeral;
 mod path;
+mod error;
 mod form;
+mod reader;
 mod tree;
 mod words;
 
+pub use error::NetError;
 pub use name::Name;
 pub use path::Path;
 pub use tree::{Block, ChannelLine, Net, PortLine, ProcessText, Statement, Test, Var};
