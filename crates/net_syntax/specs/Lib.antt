@@ -9,3 +9,4 @@ pub mod View
 pub mod Reads
 pub mod FormView
 pub mod ReaderView
+pub mod UnreadView

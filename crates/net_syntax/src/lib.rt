@@ -10,6 +10,7 @@ mod error;
 mod form;
 mod reader;
 mod tree;
+mod unread;
 mod words;
 
 pub use error::NetError;
