@@ -41,7 +41,7 @@ one_column :
     × (net_of (head ++ codes "move a o\n") ≡ Err (Unclosed 5))
     × (net_of (head ++ codes "move a o\nend\nend\n") ≡ Err (StrayEnd 8))
     × (net_of (head ++ codes "put o 1\nend\n") ≡ Ok (column (Then 6 (PutNumber (codes "o") (pos 1)) Empty)))
-unfolding followed_by number_of value_of tiles_of next_word at_end tiles_to_end path_of via_of at_of port_of channel_of process_of name_and_var put_of two_names var_and_number one_var two_vars test_against_zero version_of row_of statement_of keyword_of said form_of lines_of and_then after_lines net_of
+unfolding followed_by number_of value_of tiles_of next_word at_end tiles_to_end path_of via_of at_of port_of channel_of process_of name_and_var put_of two_names var_and_number one_var two_vars test_against_zero version_of row_of statement_of keyword_of said form_of lines_up_to lines_of and_then after_lines net_of
 one_column = (refl, refl, refl, refl)
 
 -- a missing or wrong first or second line
@@ -54,14 +54,14 @@ heads :
     × (net_of (codes "net 1\nelse\n") ≡ Err (StrayEnd 2))
     × (net_of (codes "net 1\ntiles cccc CCCC CCCC\n") ≡ Err (BadLine 2))
     × (net_of (codes "net 1\ntiles CCCC CCCC\n") ≡ Err (BadLine 2))
-unfolding followed_by number_of value_of tiles_of next_word at_end tiles_to_end path_of via_of at_of port_of channel_of process_of name_and_var put_of two_names var_and_number one_var two_vars test_against_zero version_of row_of statement_of keyword_of said form_of lines_of and_then after_lines net_of
+unfolding followed_by number_of value_of tiles_of next_word at_end tiles_to_end path_of via_of at_of port_of channel_of process_of name_and_var put_of two_names var_and_number one_var two_vars test_against_zero version_of row_of statement_of keyword_of said form_of lines_up_to lines_of and_then after_lines net_of
 heads = (refl, refl, refl, refl, refl, refl, refl, refl)
 
 -- blanks, comments, CR, and keywords as names
 blanks :
     (net_of (head ++ codes "# first\n\n  get  a\tx # into x\r\n \nput o -007\nend") ≡ Ok (column (Then 8 (Get (codes "a") X) (Then 10 (PutNumber (codes "o") (negsuc 6)) Empty))))
     × (net_of (head ++ codes "move if end\nput else -0\nend\n") ≡ Ok (column (Then 6 (Move (codes "if") (codes "end")) (Then 7 (PutNumber (codes "else") (pos 0)) Empty))))
-unfolding followed_by number_of value_of tiles_of next_word at_end tiles_to_end path_of via_of at_of port_of channel_of process_of name_and_var put_of two_names var_and_number one_var two_vars test_against_zero version_of row_of statement_of keyword_of said form_of lines_of and_then after_lines net_of
+unfolding followed_by number_of value_of tiles_of next_word at_end tiles_to_end path_of via_of at_of port_of channel_of process_of name_and_var put_of two_names var_and_number one_var two_vars test_against_zero version_of row_of statement_of keyword_of said form_of lines_up_to lines_of and_then after_lines net_of
 blanks = (refl, refl)
 
 -- blocks in blocks, with and without `else`
@@ -75,7 +75,7 @@ nesting :
     × (net_of (head ++ codes "else\n") ≡ Err (StrayEnd 6))
     × (net_of (head ++ codes "end x\n") ≡ Err (BadLine 6))
     × (net_of (head ++ codes "if x = 00\n") ≡ Err (BadLine 6))
-unfolding followed_by number_of value_of tiles_of next_word at_end tiles_to_end path_of via_of at_of port_of channel_of process_of name_and_var put_of two_names var_and_number one_var two_vars test_against_zero version_of row_of statement_of keyword_of said form_of lines_of and_then after_lines net_of
+unfolding followed_by number_of value_of tiles_of next_word at_end tiles_to_end path_of via_of at_of port_of channel_of process_of name_and_var put_of two_names var_and_number one_var two_vars test_against_zero version_of row_of statement_of keyword_of said form_of lines_up_to lines_of and_then after_lines net_of
 nesting = (refl, refl, refl, refl, refl, refl, refl, refl, refl)
 
 -- sixteen blocks may be open, and the seventeenth is refused
@@ -84,7 +84,7 @@ too_deep :
     × (net_of (head ++ codes "if x = 0\nif x = 0\nif x = 0\nif x = 0\nif x = 0\nif x = 0\nif x = 0\nif x = 0\nif x = 0\nif x = 0\nif x = 0\nif x = 0\nif x = 0\nif x = 0\nif x = 0\nif x = 0\nwhile y\n") ≡ Err (BadLine 22))
     × (net_of (head ++ codes "if x = 0\nif x = 0\nif x = 0\nif x = 0\nif x = 0\nif x = 0\nif x = 0\nif x = 0\nif x = 0\nif x = 0\nif x = 0\nif x = 0\nif x = 0\nif x = 0\nif x = 0\nif x = 0\nput o 1\n") ≡ Err (Unclosed 21))
     × (net_of (head ++ codes "if x = 0\nif x = 0\nif x = 0\nif x = 0\nif x = 0\nif x = 0\nif x = 0\nif x = 0\nif x = 0\nif x = 0\nif x = 0\nif x = 0\nif x = 0\nif x = 0\nif x = 0\nif x = 0\nelse\ncount y\n") ≡ Err (TooDeep 23))
-unfolding followed_by number_of value_of tiles_of next_word at_end tiles_to_end path_of via_of at_of port_of channel_of process_of name_and_var put_of two_names var_and_number one_var two_vars test_against_zero version_of row_of statement_of keyword_of said form_of lines_of and_then after_lines net_of
+unfolding followed_by number_of value_of tiles_of next_word at_end tiles_to_end path_of via_of at_of port_of channel_of process_of name_and_var put_of two_names var_and_number one_var two_vars test_against_zero version_of row_of statement_of keyword_of said form_of lines_up_to lines_of and_then after_lines net_of
 too_deep = (refl, refl, refl, refl)
 
 -- lines that are wrong by themselves or where they stand
@@ -98,12 +98,12 @@ wrong_lines :
     × (net_of (head ++ codes "end\nchannel c via 100\n") ≡ Err (BadLine 7))
     × (net_of (head ++ codes "end\ninput b at 4\n") ≡ Err (BadLine 7))
     × (net_of (head ++ codes "end\ninput b at 03 via 007\nnet 1\n") ≡ Err (BadLine 8))
-unfolding followed_by number_of value_of tiles_of next_word at_end tiles_to_end path_of via_of at_of port_of channel_of process_of name_and_var put_of two_names var_and_number one_var two_vars test_against_zero version_of row_of statement_of keyword_of said form_of lines_of and_then after_lines net_of
+unfolding followed_by number_of value_of tiles_of next_word at_end tiles_to_end path_of via_of at_of port_of channel_of process_of name_and_var put_of two_names var_and_number one_var two_vars test_against_zero version_of row_of statement_of keyword_of said form_of lines_up_to lines_of and_then after_lines net_of
 wrong_lines = (refl, refl, refl, refl, refl, refl, refl, refl, refl)
 
 -- past the last line that may say something every line is wrong
 past : lines_up_to 1 (non_blank_lines (codes "\nnet 1\n#\nend\n")) ≡ record { number = 2; form = Version } ∷ record { number = 4; form = Malformed } ∷ []
-unfolding followed_by next_word at_end version_of keyword_of said form_of
+unfolding followed_by next_word at_end version_of keyword_of said form_of lines_up_to
 past = refl
 
 -- the canonical text

@@ -4,3 +4,4 @@ mod Cutting
 mod Numerals
 mod Paths
 mod Reversed
+mod Limits

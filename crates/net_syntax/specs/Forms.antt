@@ -336,7 +336,7 @@ abbrev pub line_past : NonBlank → Line
 line_past filled = record { number = filled.number; form = Malformed }
 
 -- at most so many lines say something
-abbrev pub lines_up_to : ℕ → List NonBlank → List Line
+unfoldable pub lines_up_to : ℕ → List NonBlank → List Line
 lines_up_to most filled = map line_of (take most filled) ++ map line_past (drop most filled)
 
 -- the lines of a text that aren't blank, of which at most 65,535 say something

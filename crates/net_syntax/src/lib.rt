@@ -8,10 +8,13 @@ mod numeral;
 mod path;
 mod error;
 mod form;
+mod read;
 mod reader;
 mod tree;
 mod unread;
 mod words;
+
+pub use read::read_net;
 
 pub use error::NetError;
 pub use name::Name;

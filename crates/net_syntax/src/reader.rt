@@ -3,13 +3,15 @@ ghost use Rattle.std.specs.Prelude.{◌≡◌, ◌+◌, ◌<◌, ◌^◌, option
 ghost use Rattle.net_syntax.specs.ReaderView.{Answers, IsError, configuration_view, open_process_view, open_statement_view, role_view};
 ghost use Rattle.net_syntax.specs.FormView.{form_view};
 ghost use Rattle.net_syntax.specs.View.{net_view, block_view, statement_view};
-ghost use Rattle.net_syntax.specs.Reading.{Configuration as Seen, after_line as line_after, line_inside, line_outside, statement_with as statement_of, with_statement as more_statements, with_open_block as opens, refusal_of, after_else as else_after, after_end as end_after, net_at_end as net_of_end};
+ghost use Rattle.net_syntax.specs.Reading.{Configuration as Seen, after_line as line_after, line_inside, line_outside, statement_with as statement_of, with_statement as more_statements, with_open_block as opens, refusal_of, after_else as else_after, after_end as end_after, net_at_end as net_of_end, innermost_line as line_of_innermost};
+ghost use Rattle.net_syntax.specs.Grammar.{bare_net};
 
 use crate::error::NetError;
 use crate::form::LineForm;
 use crate::name::Name;
 use crate::tree::{Block, ChannelLine, Net, PortLine, ProcessText, Statement, Test, Var};
 use std::alloc::Global;
+use tis_base::Tiles;
 
 /// What an open block is part of.
 #[derive(Drop)]
@@ -60,7 +62,7 @@ fn statement_with(alloc: Global, role: BlockRole, block: Block) -> Statement
 }
 
 // The refusal of a line that can't stand where it stands.
-fn refusal(line: usize, form: &LineForm) -> NetError
+pub(crate) fn refusal(line: usize, form: &LineForm) -> NetError
     ensures { IsError {Y = Seen} result (Err (refusal_of line (form_view form.now))) }
 {
     match form {
@@ -221,12 +223,55 @@ fn outside(alloc: Global, net: Net, line: usize, form: LineForm) -> Result<Confi
 }
 
 // What one more line makes of the lines before it.
-fn after_line(alloc: Global, sofar: Configuration, line: usize, form: LineForm) -> Result<Configuration, NetError>
+pub(crate) fn after_line(alloc: Global, sofar: Configuration, line: usize, form: LineForm) -> Result<Configuration, NetError>
     ensures { let seen = configuration_view sofar in Answers configuration_view result (line_after seen.net seen.open_process line (form_view form)) }
 {
     let Configuration { net, open_process } = sofar;
     match open_process {
         None => outside(alloc, net, line, form),
         Some(opened) => inside(alloc, net, opened, line, form),
+    }
+}
+
+impl Configuration {
+    /// The network that has these tiles and nothing else so far.
+    pub(crate) fn new(alloc: Global, tiles: Tiles) -> Configuration
+        ensures { configuration_view result ≡ record { net = bare_net tiles; open_process = None } }
+    {
+        let net = Net {
+            version: 1,
+            tiles,
+            inputs: Vec::new(alloc),
+            outputs: Vec::new(alloc),
+            channels: Vec::new(alloc),
+            processes: Vec::new(alloc),
+        };
+        Configuration {
+            net,
+            open_process: None,
+        }
+    }
+}
+
+// The line of what is open innermost.
+fn innermost_line(opened: &OpenProcess) -> usize
+    ensures { let seen = open_process_view opened.now in result ≡ line_of_innermost seen seen.around }
+{
+    match opened.around.last() {
+        Some(inner) => inner.line,
+        None => opened.line,
+    }
+}
+
+/// The network, where no process is open at its end.
+pub(crate) fn net_at_end(sofar: Configuration) -> Result<Net, NetError>
+    ensures { let seen = configuration_view sofar in Answers net_view result (net_of_end seen.net seen.open_process) }
+{
+    let Configuration { net, open_process } = sofar;
+    match open_process {
+        None => Ok(net),
+        Some(opened) => Err(NetError::Unclosed {
+            line: innermost_line(&opened),
+        }),
     }
 }

@@ -26,6 +26,7 @@ pub(crate) fn next_form(bytes: &[u8], before: usize) -> Option<(LineForm, usize,
     requires { before + length bytes.now < 2 ^ 64 }
     ensures line { MatchOption result (non_blank_from (before + 1) (text_lines bytes.now) ≡ []) (λ f. IsNext (non_blank_from (before + 1) (text_lines bytes.now)) f.0 f.1 f.2.now) }
     ensures fits { MatchOption result (non_blank_from (before + 1) (text_lines bytes.now) ≡ []) (λ f. f.1 + length f.2.now ≤ before + length bytes.now) }
+    ensures shorter { MatchOption result (non_blank_from (before + 1) (text_lines bytes.now) ≡ []) (λ f. length f.2.now < length bytes.now) }
 {
     let mut rest = bytes;
     let mut number = before;

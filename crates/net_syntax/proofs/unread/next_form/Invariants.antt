@@ -9,6 +9,7 @@ invariant-lines l =
     record {
       lines : non_blank_from (l.before + 1) (text_lines l.bytes) ≡ non_blank_from (l.number + 1) (text_lines l.rest);
       fits : l.number + length l.rest ≤ l.before + length l.bytes;
+      shorter : length l.rest ≤ length l.bytes;
     }
 
 abbrev pub decreases-lines : goal.decreases-lines
