@@ -1,5 +1,6 @@
 -- The tree of a network as it is held, and as it is seen.
-use Rattle.std.proofs.Common.{◌≡◌, ℕ, suc, List, [], ◌∷◌, ◌++◌, map, length, refl, sym, ap, ◌∙◌, Some, None}
+use Rattle.std.proofs.Common.{◌≡◌, ℕ, zero, suc, ◌<◌, List, [], ◌∷◌, ◌++◌, map, length, get_or, refl, sym, ap, ◌∙◌, arith, Some, None}
+use Rattle.std.specs.Prelude.{slice_get, option_map}
 use Rattle.std.proofs.lemmas.List.{map-append, length-map}
 use Rattle.net_syntax.specs.declared.tree.Statement as held
 use Rattle.net_syntax.specs.declared.tree.Statement.TheFolds as folds
@@ -50,3 +51,21 @@ block_pushed block new statement line is =
     block_rolled (record { statements = new }) ∙ ap (λ (n : List held_numbered.Numbered). block_with (map numbered_view n)) is ∙ ap block_with (map-append numbered_view items (last ∷ []))
     ∙ ap (λ (n : Numbered). block_with (map numbered_view items ++ n ∷ [])) (numbered_rolled statement line) ∙ block_with-with_last (map numbered_view items) line (statement_view statement)
     ∙ ap (λ (b : Block Name). with_last b line (statement_view statement)) (sym (block_seen block))
+
+-- one element of a list of what is seen
+get_seen : (items : List held_numbered.Numbered) (index : ℕ) (default : held_numbered.Numbered) → index < length items → slice_get (map numbered_view items) index ≡ Some (numbered_view (get_or items index default))
+get_seen [] index default within = absurd (omega arith)
+get_seen (item ∷ items) zero default within = refl
+get_seen (item ∷ items) (suc index) default within = get_seen items index default (omega arith)
+
+-- the statement at an index, with its line
+pub block_at : (block : held_block.Block) (items : List held_numbered.Numbered) (index : ℕ) (default : held_numbered.Numbered) → items ≡ (held_block.out-Block block).statements → index < length items → slice_get (statements_of (block_view block)) index ≡ Some ((get_or items index default).line, statement_view (get_or items index default).statement)
+block_at block items index default is within =
+    ap (λ (b : Block Name). slice_get (statements_of b) index) (block_seen block)
+    ∙ ap (λ (l : List Numbered). slice_get l index) (statements_of-block_with (map numbered_view (held_block.out-Block block).statements))
+    ∙ ap (λ (l : List held_numbered.Numbered). slice_get (map numbered_view l) index) (sym is)
+    ∙ get_seen items index default within
+    ∙ ap (λ (n : Numbered). Some n) (numbered_seen (get_or items index default))
+
+pub block_within : (block : held_block.Block) (items : List held_numbered.Numbered) (index : ℕ) → items ≡ (held_block.out-Block block).statements → index < length (statements_of (block_view block)) → index < length items
+block_within block items index is within = let a = block_length block in let b = ap length is in omega (arith, a, b)

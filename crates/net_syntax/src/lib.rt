@@ -20,3 +20,6 @@ pub use error::NetError;
 pub use name::Name;
 pub use path::Path;
 pub use tree::{Block, ChannelLine, Net, PortLine, ProcessText, Statement, Test, Var};
+
+#[cfg(test)]
+mod tests;

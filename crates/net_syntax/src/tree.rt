@@ -1,7 +1,7 @@
 //! The tree of a network.
 ghost use Rattle.std.specs.Prelude.{◌≡◌, ◌<◌, ◌≤◌, ◌↔◌, [], ◌∷◌, ◌++◌, length, slice_get, Some, IsTrue};
 
-ghost use Rattle.std.specs.Prelude.{OnOk, OnErr};
+ghost use Rattle.std.specs.Prelude.{OnOk, OnErr, option_map};
 ghost use Rattle.net_syntax.specs.Tree.{Empty, with_last, statements_of};
 ghost use Rattle.net_syntax.specs.View.{block_view, statement_view};
 
@@ -136,5 +136,21 @@ impl Block {
         ensures { result ≡ length (statements_of (block_view self.now)) }
     {
         self.statements.len()
+    }
+
+    /// The statement at an index from 0 on.
+    pub fn at(&self, index: usize) -> &Statement
+        requires { index < length (statements_of (block_view self.now)) }
+        ensures { option_map (λ s. s.1) (slice_get (statements_of (block_view self.now)) index) ≡ Some (statement_view result.now) }
+    {
+        &self.statements.as_slice()[index].statement
+    }
+
+    /// The number of the line of the statement at an index from 0 on.
+    pub fn line(&self, index: usize) -> usize
+        requires { index < length (statements_of (block_view self.now)) }
+        ensures { option_map (λ s. s.0) (slice_get (statements_of (block_view self.now)) index) ≡ Some result }
+    {
+        self.statements.as_slice()[index].line
     }
 }
