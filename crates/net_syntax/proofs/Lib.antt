@@ -5,3 +5,4 @@ mod Numerals
 mod Paths
 mod Reversed
 mod Limits
+mod Derived

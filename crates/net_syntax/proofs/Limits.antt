@@ -85,9 +85,9 @@ all_cut next most before number left text behind form within following within_is
     ∙ ap (λ (f : LineForm). head_of_line number f (after_version next (lines_left (most - 1) number behind))) (sym within_is)
     ∙ ap (λ (n : ℕ). head_of_line number within (after_version next (lines_left n number behind))) (sym left_is)
 
-no_more : (seen : Configuration) → after_lines seen [] ≡ Ok seen
+pub nothing_more : (seen : Configuration) → after_lines seen [] ≡ Ok seen
 unfolding after_lines
-no_more seen = refl
+nothing_more seen = refl
 
 pub all_passed : (seen : Configuration) (most before : ℕ) (text : List ℕ) → non_blank_from (before + 1) (text_lines text) ≡ [] → after_lines seen (lines_left most before text) ≡ Ok seen
-all_passed seen most before text none = ap (after_lines seen) (no_line most before text none) ∙ no_more seen
+all_passed seen most before text none = ap (after_lines seen) (no_line most before text none) ∙ nothing_more seen

@@ -10,3 +10,4 @@ pub mod Reads
 pub mod FormView
 pub mod ReaderView
 pub mod UnreadView
+pub mod Laws

@@ -2,6 +2,7 @@
 #![tactic(auto)]
 
 mod keyword;
+mod laws;
 mod lines;
 mod name;
 mod numeral;
@@ -17,6 +18,7 @@ mod words;
 pub use read::read_net;
 
 pub use error::NetError;
+pub use laws::networks_are_read;
 pub use name::Name;
 pub use path::Path;
 pub use tree::{Block, ChannelLine, Net, PortLine, ProcessText, Statement, Test, Var};
