@@ -97,14 +97,14 @@ mutual
       ∙ block_is first deeper inner is.6 net one (behind ++ line end forms.End ∷ rest) (omega (arith, room))
       ∙ elim is.7 [
         | inl none ↦
-          ap (λ (l : List Line). after_lines (during net (holding one first)) (l ++ line end forms.End ∷ rest)) none.0
-          ∙ goes_on (during net (holding one first)) (during net (holding opened (with_last opened.block number (If var test first Empty)))) end forms.End rest refl
-          ∙ ap (λ (b : Block Name). after_lines (during net (holding opened (with_last opened.block number (If var test first b)))) rest) (sym none.1)
+            ap (λ (l : List Line). after_lines (during net (holding one first)) (l ++ line end forms.End ∷ rest)) none.0
+            ∙ goes_on (during net (holding one first)) (during net (holding opened (with_last opened.block number (If var test first Empty)))) end forms.End rest refl
+            ∙ ap (λ (b : Block Name). after_lines (during net (holding opened (with_last opened.block number (If var test first b)))) rest) (sym none.1)
         | inr other ↦
-          ap (λ (l : List Line). after_lines (during net (holding one first)) (l ++ line end forms.End ∷ rest)) other.2
-          ∙ goes_on (during net (holding one first)) (during net two) other.0 forms.Else (other.1 ++ line end forms.End ∷ rest) refl
-          ∙ block_is second deeper other.1 other.3 net two (line end forms.End ∷ rest) (omega (arith, room))
-          ∙ goes_on (during net (holding two second)) (during net (holding opened (with_last opened.block number (If var test first second)))) end forms.End rest refl
+            ap (λ (l : List Line). after_lines (during net (holding one first)) (l ++ line end forms.End ∷ rest)) other.2
+            ∙ goes_on (during net (holding one first)) (during net two) other.0 forms.Else (other.1 ++ line end forms.End ∷ rest) refl
+            ∙ block_is second deeper other.1 other.3 net two (line end forms.End ∷ rest) (omega (arith, room))
+            ∙ goes_on (during net (holding two second)) (during net (holding opened (with_last opened.block number (If var test first second)))) end forms.End rest refl
       ]
   statement_is (Get read var) depth number lines is net opened rest fits = simple_is net opened number (Get read var) lines rest is
   statement_is (GetAdd read var) depth number lines is net opened rest fits = simple_is net opened number (GetAdd read var) lines rest is

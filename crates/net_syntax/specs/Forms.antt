@@ -1,4 +1,4 @@
--- What a line says by itself, whatever stands before and behind it.
+-- The forms of lines: what a line says by its words alone.
 use Rattle.std.specs.Prelude.{ℕ, ◌+◌, ◌-◌, ◌*◌, ℤ, pos, neg_ℤ, Bool, false, ◌&&◌, List, [], ◌∷◌, ◌++◌, map, length, take, drop, flat_map, Option, Some, None, option_map, option_and_then, codes, nat_le, nat_eq, if◌then◌else◌, ◌==◌}
 use Rattle.std.specs.Char.{is_ascii_digit}
 use Rattle.std.specs.List.{list_all}
@@ -20,9 +20,9 @@ use Rattle.net_syntax.specs.Words.{Words, NonBlank, non_blank_lines}
 
 -- what a line says
 pub data LineForm : Type 0 where
-  -- the first line
+  -- `net 1`
   Version : LineForm
-  -- the second line
+  -- `tiles` and its letters
   TilesLine : (tiles : Tiles) → LineForm
   -- declarations
   Input : (name : Name) → (position : ℕ) → (via : Option (List ℕ)) → LineForm
@@ -38,16 +38,17 @@ pub data LineForm : Type 0 where
   -- the line between two blocks, and the line behind a block or a process
   Else : LineForm
   End : LineForm
-  -- anything else
+  -- anything else, and each line past the last one that a network may have
   Malformed : LineForm
 
 -- ---- words
 
--- what is said next is looked for only where the words before it were right
+-- the next part is looked for only where the words before it were right
 unfoldable pub followed_by : {A B : Type 0} → Option A → (A → Option B) → Option B
 followed_by read next = option_and_then next read
 
 infixl 10 ◌>>=◌
+-- the same, written between the two
 abbrev pub ◌>>=◌ : {A B : Type 0} → Option A → (A → Option B) → Option B
 read >>= next = followed_by read next
 
@@ -59,9 +60,11 @@ exactly expected word = if bytes_eq word expected then Some expected else None
 abbrev pub name_of : List ℕ → Option Name
 name_of word = if is_name word then Some word else None
 
+-- the variable that a word names
 abbrev pub var_of : List ℕ → Option Var
 var_of word = if bytes_eq word (codes "x") then Some X else if bytes_eq word (codes "y") then Some Y else None
 
+-- how a word compares a variable with 0
 abbrev pub test_of : List ℕ → Option Test
 test_of word =
     if bytes_eq word (codes "=") then Some Zero
@@ -86,10 +89,11 @@ abbrev pub spelled : List ℕ → Option ℕ
 spelled [] = None
 spelled (byte ∷ bytes) = spelled_behind 0 (byte ∷ bytes)
 
+-- this number, where it is at most the first one
 abbrev pub at_most : ℕ → ℕ → Option ℕ
 at_most most number = if nat_le number most then Some number else None
 
--- a word of digits, any number of them, that spells at most this number
+-- the number that one or more digits spell, leading zeros among them, where it is at most this one
 unfoldable pub number_of : ℕ → List ℕ → Option ℕ
 number_of most word = option_and_then (at_most most) (spelled word)
 
@@ -115,10 +119,11 @@ unfoldable pub tiles_to_end : Words → Option (List ℕ)
 tiles_to_end [] = Some []
 tiles_to_end (word ∷ words) = option_and_then (λ tile. option_map (λ tiles. tile ∷ tiles) (tiles_to_end words)) (number_of 99 word)
 
--- at most 48 tiles
+-- these tiles, where they are at most 48
 abbrev pub short_path : List ℕ → Option (List ℕ)
 short_path tiles = if nat_le (length tiles) 48 then Some tiles else None
 
+-- at most 48 numbers of tiles, up to the end of the line
 unfoldable pub path_of : Words → Option (List ℕ)
 path_of words = option_and_then short_path (tiles_to_end words)
 
@@ -167,7 +172,7 @@ name_and_var words = do
   var ← next_word var_of name.1
   at_end var.1 (name.0, var.0)
 
--- what is sent: a variable or a number
+-- the statement that sends on this name what the word says: a variable or a number
 abbrev pub sent_on : Name → List ℕ → Option (Statement Name)
 sent_on name word = option_or (option_map (Put name) (var_of word)) (option_map (PutNumber name) (value_of word))
 
@@ -213,14 +218,15 @@ test_against_zero words = do
   zero ← next_word (exactly (codes "0")) test.1
   at_end zero.1 (var.0, test.0)
 
--- the first line has `1` behind its word
+-- exactly the word `1`, and nothing behind it
 unfoldable pub version_of : Words → Option LineForm
 version_of words = do
   version ← next_word (exactly (codes "1")) words
   at_end version.1 Version
 
--- ---- the tiles: this is the one place that knows how many columns and rows there are
+-- ---- the tiles
 
+-- what a letter of the tiles stands for
 abbrev pub kind_of : ℕ → Option TileKind
 kind_of letter = if letter == 67 then Some Compute else if letter == 77 then Some Memory else if letter == 68 then Some Damaged else None
 
@@ -282,6 +288,7 @@ variable_keyword text =
     else if bytes_eq text (codes "swap") then Some word.Swap
     else None
 
+-- the word that a line begins with, where it is a word of the language
 unfoldable pub keyword_of : List ℕ → Option Keyword
 keyword_of text = option_or (frame_keyword text) (option_or (statement_keyword text) (variable_keyword text))
 
@@ -328,6 +335,7 @@ pub record Line : Type 0 where
   pub number : ℕ
   pub form : LineForm
 
+-- a line by its words
 abbrev pub line_of : NonBlank → Line
 line_of filled = record { number = filled.number; form = form_of filled.words }
 
@@ -335,7 +343,7 @@ line_of filled = record { number = filled.number; form = form_of filled.words }
 abbrev pub line_past : NonBlank → Line
 line_past filled = record { number = filled.number; form = Malformed }
 
--- at most so many lines say something
+-- the first so many lines by their words, and each later one malformed
 unfoldable pub lines_up_to : ℕ → List NonBlank → List Line
 lines_up_to most filled = map line_of (take most filled) ++ map line_past (drop most filled)
 

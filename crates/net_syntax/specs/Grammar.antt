@@ -79,10 +79,11 @@ IsNet lines net = IsNetWithin 16 lines net
 
 -- ---- refusals
 
--- with some lines behind them these lines are a network
+-- with some lines behind them, however many, these lines are a network
 abbrev pub GoesOnWithin : ℕ → List Line → Type 0
 GoesOnWithin depth lines = (more : List Line) × (net : Net) × IsNetWithin depth (lines ++ more) net
 
+-- the same with at most sixteen statements open at once
 abbrev pub GoesOn : List Line → Type 0
 GoesOn lines = GoesOnWithin 16 lines
 
@@ -95,18 +96,18 @@ pub record IsFirstWrong (lines : List Line) (wrong : Line) : Type 0 where
   pub stops : ¬ GoesOn (before ++ wrong ∷ [])
 
 -- it goes on where statements may be nested deeper
-abbrev pub IsOnlyTooDeep : List Line → Line → Type 0
-IsOnlyTooDeep before wrong = (depth : ℕ) × GoesOnWithin depth (before ++ wrong ∷ [])
+abbrev pub GoesOnDeeper : List Line → Line → Type 0
+GoesOnDeeper before wrong = (depth : ℕ) × GoesOnWithin depth (before ++ wrong ∷ [])
 
 -- it says `end` or `else`
 abbrev pub IsCloser : LineForm → Type 0
 IsCloser form = (form ≡ forms.End) ⊎ (form ≡ forms.Else)
 
--- these lines are whole statements
+-- these lines are whole statements, nested however deep
 abbrev pub AreStatements : List Line → Type 0
 AreStatements lines = (depth : ℕ) × (block : Block Name) × IsBlock depth block lines
 
--- what this line opens is still open behind these lines: statements, or for an `if` statements, `else` and statements
+-- what this line opens is open behind these lines, and nothing that was opened later is: whole statements; for an `if` also statements, `else` and statements
 abbrev pub IsOpenBehind : LineForm → List Line → Type 0
 IsOpenBehind (forms.Process name at) lines = AreStatements lines
 IsOpenBehind (forms.OpensWhile var test) lines = AreStatements lines
@@ -121,9 +122,9 @@ IsUnclosed lines number = (before inside : List Line) × (opening : LineForm) ×
 -- why these lines are no network, where a line behind all lines of the text would have the number `next`
 abbrev pub IsRefusal : ℕ → List Line → NetRefusal → Type 0
 IsRefusal next lines (StrayEnd number) = (wrong : Line) × IsFirstWrong lines wrong × (number ≡ wrong.number) × IsCloser wrong.form
-IsRefusal next lines (TooDeep number) = (wrong : Line) × (first : IsFirstWrong lines wrong) × (number ≡ wrong.number) × IsOnlyTooDeep first.before wrong
+IsRefusal next lines (TooDeep number) = (wrong : Line) × (first : IsFirstWrong lines wrong) × (number ≡ wrong.number) × GoesOnDeeper first.before wrong
 IsRefusal next lines (BadLine number) =
-    ((wrong : Line) × (first : IsFirstWrong lines wrong) × (number ≡ wrong.number) × (¬ IsCloser wrong.form) × (¬ IsOnlyTooDeep first.before wrong))
+    ((wrong : Line) × (first : IsFirstWrong lines wrong) × (number ≡ wrong.number) × (¬ IsCloser wrong.form) × (¬ GoesOnDeeper first.before wrong))
     ⊎ (GoesOn lines × (length lines ≤ 1) × (number ≡ next))
 IsRefusal next lines (Unclosed number) = GoesOn lines × IsUnclosed lines number
 

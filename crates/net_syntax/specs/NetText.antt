@@ -13,6 +13,7 @@ use Rattle.net_syntax.specs.declared.tree.Test.TheVariants.{Zero, NotZero, Negat
 use Rattle.net_syntax.specs.Tree.{Name, Statement, Get, GetAdd, GetSub, Put, PutNumber, Move, Set, Add, Sub, Neg, Double, Copy, Swap, If, While, Count, Block, Empty, Then, PortLine, ChannelLine, ProcessText, Net}
 use Rattle.net_syntax.specs.Words.{Words}
 
+-- the letter of a kind of tile
 abbrev pub kind_letter : TileKind → ℕ
 kind_letter Compute = 67
 kind_letter Memory = 77
@@ -23,33 +24,42 @@ abbrev pub row_words : ℕ → ℕ → List TileKind → Words
 row_words columns zero kinds = []
 row_words columns (suc rows) kinds = map kind_letter (take columns kinds) ∷ row_words columns rows (drop columns kinds)
 
+-- the first line
 abbrev pub version_line : ℕ → Words
 version_line version = codes "net" ∷ decimal version ∷ []
 
+-- the second line
 abbrev pub tiles_line : Tiles → Words
 tiles_line tiles = codes "tiles" ∷ row_words tiles.shape.columns tiles.shape.rows tiles.kinds
 
+-- how a link goes, where it is pinned
 abbrev pub via_words : Option (List ℕ) → Words
 via_words None = []
 via_words (Some path) = codes "via" ∷ map decimal path
 
+-- where a process stands, where it is pinned
 abbrev pub at_words : Option ℕ → Words
 at_words None = []
 at_words (Some tile) = codes "at" ∷ decimal tile ∷ []
 
+-- the line of an input or an output, by the word of its side
 abbrev pub port_line : List ℕ → PortLine → Words
 port_line side port = side ∷ port.name ∷ codes "at" ∷ decimal port.position ∷ via_words port.via
 
+-- the line of a channel
 abbrev pub channel_line : ChannelLine → Words
 channel_line channel = codes "channel" ∷ channel.name ∷ via_words channel.via
 
+-- the line that begins a process
 abbrev pub process_line : Name → Option ℕ → Words
 process_line name at = codes "process" ∷ name ∷ at_words at
 
+-- the word of a variable
 abbrev pub var_word : Var → List ℕ
 var_word X = codes "x"
 var_word Y = codes "y"
 
+-- the word of a comparison with 0
 abbrev pub test_word : Test → List ℕ
 test_word Zero = codes "="
 test_word NotZero = codes "!="
@@ -58,6 +68,7 @@ test_word Positive = codes ">"
 test_word NotPositive = codes "<="
 test_word NotNegative = codes ">="
 
+-- the line that ends a block or a process
 abbrev pub end_line : Words
 end_line = codes "end" ∷ []
 
@@ -98,6 +109,7 @@ abbrev mutual
   else_lines Empty = []
   else_lines (Then line statement rest) = (codes "else" ∷ []) ∷ ((statement_line statement ∷ inner_lines statement) ++ block_lines rest)
 
+-- the lines of a process
 abbrev pub process_lines : ProcessText → List Words
 process_lines process = (process_line process.name process.at ∷ block_lines process.body) ++ end_line ∷ []
 
@@ -107,5 +119,6 @@ net_lines net =
     version_line net.version ∷ tiles_line net.tiles
     ∷ (map (port_line (codes "input")) net.inputs ++ map (port_line (codes "output")) net.outputs ++ map channel_line net.channels ++ flat_map process_lines net.processes)
 
+-- the canonical text
 abbrev pub net_text : Net → List ℕ
 net_text net = text_of_lines (map (join_with_byte 32) (net_lines net))

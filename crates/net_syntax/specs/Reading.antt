@@ -1,4 +1,4 @@
--- The network that a text gives, or the first refusal: the one outcome that the grammar describes, found line by line.
+-- Reading a network line by line. The grammar says what it means: a law of this crate has that its networks are read so.
 use Rattle.std.specs.Prelude.{ℕ, ◌+◌, ◌<◌, List, [], ◌∷◌, ◌++◌, length, Option, Some, None, Result, Ok, Err, nat_lt, if◌then◌else◌}
 use Rattle.tis_base.specs.Tiles.{Tiles}
 use Rattle.net_syntax.specs.declared.tree.Var.{Var}
@@ -56,7 +56,7 @@ line_outside net number form = Err (refusal_of number form)
 abbrev pub with_statement : OpenProcess → ℕ → Statement Name → OpenProcess
 with_statement opened number statement = record opened { block = with_last opened.block number statement }
 
--- the process with one more open block
+-- the process with one more open block, or the refusal of a seventeenth
 abbrev pub with_open_block : OpenProcess → ℕ → BlockRole → Result OpenProcess NetRefusal
 with_open_block opened number role =
     if nat_lt (length opened.around) 16
@@ -80,6 +80,7 @@ abbrev pub else_in : OpenProcess → ℕ → OpenStatement → List OpenStatemen
 else_in opened number inner around None = Err (StrayEnd number)
 else_in opened number inner around (Some role) = Ok (record opened { block = Empty; around = record inner { role = role } ∷ around })
 
+-- the process behind `else`, or the refusal of an `else` that belongs to nothing
 abbrev pub after_else : OpenProcess → ℕ → List OpenStatement → Result OpenProcess NetRefusal
 after_else opened number [] = Err (StrayEnd number)
 after_else opened number (inner ∷ around) = else_in opened number inner around (second_role inner.role opened.block)
@@ -138,7 +139,7 @@ abbrev pub tiles_of_line : ℕ → LineForm → Result Tiles NetRefusal
 tiles_of_line number (forms.TilesLine tiles) = Ok tiles
 tiles_of_line number form = Err (refusal_of number form)
 
--- the first line is the one that it has to be
+-- what the lines behind the first one make, where it is the one that a text begins with
 abbrev pub head_of_line : ℕ → LineForm → Result Configuration NetRefusal → Result Configuration NetRefusal
 head_of_line number forms.Version behind = behind
 head_of_line number form behind = Err (refusal_of number form)
@@ -152,12 +153,12 @@ abbrev pub after_version : ℕ → List Line → Result Configuration NetRefusal
 after_version next [] = Err (BadLine next)
 after_version next (second ∷ lines) = and_then (tiles_of_line second.number second.form) (net_with lines)
 
--- all lines
+-- what all lines make, or the refusal of the first or second line
 abbrev pub after_all : ℕ → List Line → Result Configuration NetRefusal
 after_all next [] = Err (BadLine next)
 after_all next (first ∷ lines) = head_of_line first.number first.form (after_version next lines)
 
--- the outcome of these lines
+-- the network that these lines give, or the first refusal
 abbrev pub answer_of : ℕ → List Line → Result Net NetRefusal
 answer_of next lines = and_then (after_all next lines) (λ sofar. net_at_end sofar.net sofar.open_process)
 

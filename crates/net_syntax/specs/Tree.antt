@@ -26,13 +26,13 @@ mutual
     Double : (var : Var) → Statement N
     -- the first variable gets the value of the second
     Copy : (to : Var) → (from : Var) → Statement N
-    -- the two variables are exchanged
+    -- x gets the value of y, and y that of x
     Swap : Statement N
-    -- one of two blocks
+    -- does the first block where the variable passes the test, and the second one where it doesn't
     If : (var : Var) → (test : Test) → (first : Block N) → (second : Block N) → Statement N
-    -- the block as long as the test holds
+    -- tests, and where the variable passes does the block and tests again
     While : (var : Var) → (test : Test) → (body : Block N) → Statement N
-    -- as long as the variable is positive: the block, and then 1 less in the variable
+    -- where the variable is positive does the block, takes 1 from the variable, and looks again
     Count : (var : Var) → (body : Block N) → Statement N
 
   -- statements in order, each with the number of its line
@@ -58,20 +58,20 @@ statements_of (Then line statement rest) = (line, statement) ∷ statements_of r
 abbrev pub Name : Type 0
 Name = List ℕ
 
--- an input or an output at a position, and the tiles that its link passes, where it is pinned
+-- an input or an output at a position, and the tiles that its link passes: None leaves the link free, and no tiles pin it to go directly
 pub record PortLine : Type 0 where
   pub name : Name
   pub position : ℕ
   pub via : Option (List ℕ)
   pub line : ℕ
 
--- a channel, and the tiles that its link passes, where it is pinned
+-- a channel, and the tiles that its link passes, as for an input
 pub record ChannelLine : Type 0 where
   pub name : Name
   pub via : Option (List ℕ)
   pub line : ℕ
 
--- a process, its tile, where it is pinned, and what it does round after round
+-- a process, its tile, where it is pinned to one, and what it does round after round
 pub record ProcessText : Type 0 where
   pub name : Name
   pub at : Option ℕ
@@ -121,12 +121,15 @@ abbrev mutual
   block_without_lines Empty = Empty
   block_without_lines (Then line statement rest) = Then 0 (statement_without_lines statement) (block_without_lines rest)
 
+-- an input or an output without its line
 abbrev pub port_without_line : PortLine → PortLine
 port_without_line port = record port { line = 0 }
 
+-- a channel without its line
 abbrev pub channel_without_line : ChannelLine → ChannelLine
 channel_without_line channel = record channel { line = 0 }
 
+-- a process without its lines
 abbrev pub process_without_lines : ProcessText → ProcessText
 process_without_lines process = record process { body = block_without_lines process.body; line = 0 }
 

@@ -3,7 +3,7 @@ use Rattle.std.specs.Prelude.{ℕ, ◌+◌, Bool, true, false, ◌||◌, not, Li
 use Rattle.std.specs.List.{take_while}
 use Rattle.tis_base.specs.Lines.{pieces_where, text_lines}
 
--- a byte that stands before the end of a line
+-- a byte other than LF
 abbrev pub is_in_line : ℕ → Bool
 is_in_line byte = not (byte == 10)
 
@@ -11,7 +11,7 @@ is_in_line byte = not (byte == 10)
 abbrev pub Words : Type 0
 Words = List (List ℕ)
 
--- a blank or a tab
+-- a space or a tab
 abbrev pub is_blank_byte : ℕ → Bool
 is_blank_byte byte = byte == 32 || byte == 9
 
@@ -19,6 +19,7 @@ is_blank_byte byte = byte == 32 || byte == 9
 abbrev pub before_comment : List ℕ → List ℕ
 before_comment line = take_while (λ byte. not (byte == 35)) line
 
+-- bytes, and not none
 abbrev pub is_word : List ℕ → Bool
 is_word [] = false
 is_word (byte ∷ bytes) = true

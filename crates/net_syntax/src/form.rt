@@ -398,7 +398,13 @@ fn tiles_with(first: Row, second: Row, third: Row) -> Option<Tiles>
         third.third,
         third.fourth,
     ];
-    Tiles::new(Shape { columns: 4, rows: 3 }, &kinds)
+    Tiles::new(
+        Shape {
+            columns: 4,
+            rows: 3,
+        },
+        &kinds,
+    )
 }
 
 // Three rows of four tiles.
@@ -421,14 +427,20 @@ fn said(keyword: Keyword, words: &mut Words<'_>) -> Option<LineForm>
     match keyword {
         Keyword::Net => version_of(words),
         Keyword::Tiles => tiles_of(words).map(|tiles| LineForm::TilesLine(tiles)),
-        Keyword::Input => port_of(words).map(|(name, position, via)| LineForm::Input(name, position, via)),
-        Keyword::Output => port_of(words).map(|(name, position, via)| LineForm::Output(name, position, via)),
+        Keyword::Input => port_of(words).map(|(name, position, via)| LineForm::Input(
+            name, position, via,
+        )),
+        Keyword::Output => port_of(words).map(|(name, position, via)| LineForm::Output(
+            name, position, via,
+        )),
         Keyword::Channel => channel_of(words).map(|(name, via)| LineForm::Channel(name, via)),
         Keyword::Process => process_of(words).map(|(name, at)| LineForm::Process(name, at)),
         Keyword::Else => end(words).map(|_| LineForm::Else),
         Keyword::End => end(words).map(|_| LineForm::End),
         Keyword::If => test_against_zero(words).map(|(var, test)| LineForm::OpensIf(var, test)),
-        Keyword::While => test_against_zero(words).map(|(var, test)| LineForm::OpensWhile(var, test)),
+        Keyword::While => test_against_zero(words).map(|(var, test)| LineForm::OpensWhile(
+            var, test,
+        )),
         Keyword::Count => one_var(words).map(|var| LineForm::OpensCount(var)),
         _ => statement_of(keyword, words).map(|statement| LineForm::Simple(statement)),
     }

@@ -5,5 +5,4 @@ ghost use Rattle.net_syntax.specs.Laws.{NetworksAreRead};
 /// is not refused.
 pub fn networks_are_read()
     ensures { NetworksAreRead }
-{
-}
+{}

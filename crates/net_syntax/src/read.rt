@@ -29,7 +29,13 @@ fn form_in(most: u32, form: LineForm) -> LineForm
 
 // What all lines of a text make of the lines before it.
 #[tactic(auto, unfolding(crate::specs::Reading::after_lines, crate::specs::Reading::and_then))]
-fn after_text(alloc: Global, sofar: Configuration, text: &[u8], before: usize, most: u32) -> Result<Configuration, NetError>
+fn after_text(
+    alloc: Global,
+    sofar: Configuration,
+    text: &[u8],
+    before: usize,
+    most: u32,
+) -> Result<Configuration, NetError>
     requires { before + length text.now < 2 ^ 64 }
     ensures { Answers configuration_view result (after_lines (configuration_view sofar) (lines_left most before text.now)) }
 {
@@ -58,18 +64,36 @@ fn missing_line(text: &[u8]) -> NetError
 
 // What the lines from the second one on make.
 #[tactic(auto, unfolding(crate::specs::Reading::and_then))]
-fn from_second(alloc: Global, line: usize, form: LineForm, behind: &[u8], most: u32) -> Result<Configuration, NetError>
+fn from_second(
+    alloc: Global,
+    line: usize,
+    form: LineForm,
+    behind: &[u8],
+    most: u32,
+) -> Result<Configuration, NetError>
     requires { line + length behind.now < 2 ^ 64 }
     ensures { Answers configuration_view result (and_then (tiles_of_line line (form_view form)) (net_with (lines_left most line behind.now))) }
 {
     match form {
-        LineForm::TilesLine(tiles) => after_text(alloc, Configuration::new(alloc, tiles), behind, line, most),
+        LineForm::TilesLine(tiles) => after_text(
+            alloc,
+            Configuration::new(alloc, tiles),
+            behind,
+            line,
+            most,
+        ),
         other => Err(refusal(line, &other)),
     }
 }
 
 // What the lines behind the first one make, where so many lines came before this text.
-fn after_version(alloc: Global, whole: &[u8], text: &[u8], before: usize, most: u32) -> Result<Configuration, NetError>
+fn after_version(
+    alloc: Global,
+    whole: &[u8],
+    text: &[u8],
+    before: usize,
+    most: u32,
+) -> Result<Configuration, NetError>
     requires { before + length text.now < 2 ^ 64 }
     ensures { Answers configuration_view result (lines_after_version (next_number whole.now) (lines_left most before text.now)) }
 {
@@ -81,7 +105,14 @@ fn after_version(alloc: Global, whole: &[u8], text: &[u8], before: usize, most: 
 }
 
 // What the lines from the first one on make.
-fn from_first(alloc: Global, whole: &[u8], line: usize, form: LineForm, behind: &[u8], most: u32) -> Result<Configuration, NetError>
+fn from_first(
+    alloc: Global,
+    whole: &[u8],
+    line: usize,
+    form: LineForm,
+    behind: &[u8],
+    most: u32,
+) -> Result<Configuration, NetError>
     requires { line + length behind.now < 2 ^ 64 }
     ensures { Answers configuration_view result (head_of_line line (form_view form) (lines_after_version (next_number whole.now) (lines_left most line behind.now))) }
 {

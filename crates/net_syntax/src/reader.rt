@@ -72,7 +72,11 @@ pub(crate) fn refusal(line: usize, form: &LineForm) -> NetError
 }
 
 // One more statement in the innermost open block.
-fn with_statement(opened: OpenProcess, line: usize, statement: Statement) -> Result<OpenProcess, NetError>
+fn with_statement(
+    opened: OpenProcess,
+    line: usize,
+    statement: Statement,
+) -> Result<OpenProcess, NetError>
     ensures { Answers open_process_view result (Ok (more_statements (open_process_view opened) line (statement_view statement))) }
 {
     let mut opened = opened;
@@ -81,7 +85,12 @@ fn with_statement(opened: OpenProcess, line: usize, statement: Statement) -> Res
 }
 
 // One more open block, where fewer than sixteen are open.
-fn with_open_block(alloc: Global, opened: OpenProcess, line: usize, role: BlockRole) -> Result<OpenProcess, NetError>
+fn with_open_block(
+    alloc: Global,
+    opened: OpenProcess,
+    line: usize,
+    role: BlockRole,
+) -> Result<OpenProcess, NetError>
     ensures { Answers open_process_view result (opens (open_process_view opened) line (role_view role)) }
 {
     let OpenProcess {
@@ -174,13 +183,29 @@ fn after_end(alloc: Global, net: Net, opened: OpenProcess) -> Result<Configurati
 }
 
 // A line inside of a process.
-fn inside(alloc: Global, net: Net, opened: OpenProcess, line: usize, form: LineForm) -> Result<Configuration, NetError>
+fn inside(
+    alloc: Global,
+    net: Net,
+    opened: OpenProcess,
+    line: usize,
+    form: LineForm,
+) -> Result<Configuration, NetError>
     ensures { Answers configuration_view result (line_inside (net_view net) (open_process_view opened) line (form_view form)) }
 {
     let opened = match form {
         LineForm::Simple(statement) => with_statement(opened, line, statement)?,
-        LineForm::OpensIf(var, test) => with_open_block(alloc, opened, line, BlockRole::FirstOf(var, test))?,
-        LineForm::OpensWhile(var, test) => with_open_block(alloc, opened, line, BlockRole::WhileOf(var, test))?,
+        LineForm::OpensIf(var, test) => with_open_block(
+            alloc,
+            opened,
+            line,
+            BlockRole::FirstOf(var, test),
+        )?,
+        LineForm::OpensWhile(var, test) => with_open_block(
+            alloc,
+            opened,
+            line,
+            BlockRole::WhileOf(var, test),
+        )?,
         LineForm::OpensCount(var) => with_open_block(alloc, opened, line, BlockRole::CountOf(var))?,
         LineForm::Else => after_else(alloc, opened, line)?,
         LineForm::End => return after_end(alloc, net, opened),
@@ -198,8 +223,18 @@ fn outside(alloc: Global, net: Net, line: usize, form: LineForm) -> Result<Confi
 {
     let mut net = net;
     match form {
-        LineForm::Input(name, position, via) => net.inputs.push(PortLine { name, position, via, line })?,
-        LineForm::Output(name, position, via) => net.outputs.push(PortLine { name, position, via, line })?,
+        LineForm::Input(name, position, via) => net.inputs.push(PortLine {
+            name,
+            position,
+            via,
+            line,
+        })?,
+        LineForm::Output(name, position, via) => net.outputs.push(PortLine {
+            name,
+            position,
+            via,
+            line,
+        })?,
         LineForm::Channel(name, via) => net.channels.push(ChannelLine { name, via, line })?,
         LineForm::Process(name, at) => {
             let opened = OpenProcess {
@@ -223,7 +258,12 @@ fn outside(alloc: Global, net: Net, line: usize, form: LineForm) -> Result<Confi
 }
 
 // What one more line makes of the lines before it.
-pub(crate) fn after_line(alloc: Global, sofar: Configuration, line: usize, form: LineForm) -> Result<Configuration, NetError>
+pub(crate) fn after_line(
+    alloc: Global,
+    sofar: Configuration,
+    line: usize,
+    form: LineForm,
+) -> Result<Configuration, NetError>
     ensures { let seen = configuration_view sofar in Answers configuration_view result (line_after seen.net seen.open_process line (form_view form)) }
 {
     let Configuration { net, open_process } = sofar;

@@ -3,7 +3,8 @@ use crate::{Block, Name, NetError, Path, Statement, Test, Var, read_net};
 use std::alloc::Global;
 use std::test::Fail;
 
-const HEAD: &[u8] = b"net 1\ntiles CCCC CCCC CCCC\ninput a at 1 via\noutput o at 1 via 5 9\nprocess p at 1\n";
+const HEAD: &[u8] =
+    b"net 1\ntiles CCCC CCCC CCCC\ninput a at 1 via\noutput o at 1 via 5 9\nprocess p at 1\n";
 
 // The refusal of a text, or None where it is a network.
 fn refusal(alloc: Global, text: &[u8]) -> Option<NetError> {
@@ -26,15 +27,30 @@ fn each_wrong_line_is_named(rt: HostRuntime) -> Result<(), Fail> {
     let rows: [(&[u8], Option<NetError>); 14] = [
         (b"move a o\nend\n", None),
         (b"move a o\n", Some(NetError::Unclosed { line: 5 })),
-        (b"move a o\nend\nend\n", Some(NetError::StrayEnd { line: 8 })),
+        (
+            b"move a o\nend\nend\n",
+            Some(NetError::StrayEnd { line: 8 }),
+        ),
         (b"get abcdefghijklmnop x\nend\n", None),
-        (b"get abcdefghijklmnopq x\nend\n", Some(NetError::BadLine { line: 6 })),
+        (
+            b"get abcdefghijklmnopq x\nend\n",
+            Some(NetError::BadLine { line: 6 }),
+        ),
         (b"put o 999\nput o -999\nend\n", None),
         (b"put o 1000\nend\n", Some(NetError::BadLine { line: 6 })),
         (b"put o -1000\nend\n", Some(NetError::BadLine { line: 6 })),
-        (b"while x = 0\nelse\nend\nend\n", Some(NetError::StrayEnd { line: 7 })),
-        (b"if x = 0\nelse\nelse\nend\nend\n", Some(NetError::StrayEnd { line: 8 })),
-        (b"\n# c\nif x = 0\n\nelse\nfoo\n", Some(NetError::BadLine { line: 11 })),
+        (
+            b"while x = 0\nelse\nend\nend\n",
+            Some(NetError::StrayEnd { line: 7 }),
+        ),
+        (
+            b"if x = 0\nelse\nelse\nend\nend\n",
+            Some(NetError::StrayEnd { line: 8 }),
+        ),
+        (
+            b"\n# c\nif x = 0\n\nelse\nfoo\n",
+            Some(NetError::BadLine { line: 11 }),
+        ),
         (b"if x >= 0\nelse\n", Some(NetError::Unclosed { line: 6 })),
         (b"end\ninput b at 4\n", Some(NetError::BadLine { line: 7 })),
         (b"end\r\nchannel c via 0 99\r\n", None),
@@ -43,7 +59,10 @@ fn each_wrong_line_is_named(rt: HostRuntime) -> Result<(), Fail> {
         assert_eq!(&rt; body_refusal(alloc, body)?, *expected);
     }
     assert_eq!(&rt; refusal(alloc, b""), Some(NetError::BadLine { line: 1 }));
-    assert_eq!(&rt; refusal(alloc, b"net 1\n\n# x\n"), Some(NetError::BadLine { line: 4 }));
+    assert_eq!(&rt;
+        refusal(alloc, b"net 1\n\n# x\n"),
+        Some(NetError::BadLine { line: 4 })
+    );
     Ok(())
 }
 
@@ -60,7 +79,10 @@ fn inputs(alloc: Global, count: u32) -> Result<Vec<u8>, Fail> {
 fn more_lines_than_a_network_may_have_are_wrong(rt: HostRuntime) -> Result<(), Fail> {
     let alloc = rt.alloc();
     assert_eq!(&rt; refusal(alloc, &inputs(alloc, 65_533)?), None);
-    assert_eq!(&rt; refusal(alloc, &inputs(alloc, 65_534)?), Some(NetError::BadLine { line: 65_536 }));
+    assert_eq!(&rt;
+        refusal(alloc, &inputs(alloc, 65_534)?),
+        Some(NetError::BadLine { line: 65_536 })
+    );
     Ok(())
 }
 
@@ -81,7 +103,10 @@ fn nested(alloc: Global, depth: u32) -> Result<Vec<u8>, Fail> {
 fn sixteen_blocks_may_be_open_and_no_more(rt: HostRuntime) -> Result<(), Fail> {
     let alloc = rt.alloc();
     assert_eq!(&rt; refusal(alloc, &nested(alloc, 16)?), None);
-    assert_eq!(&rt; refusal(alloc, &nested(alloc, 17)?), Some(NetError::TooDeep { line: 22 }));
+    assert_eq!(&rt;
+        refusal(alloc, &nested(alloc, 17)?),
+        Some(NetError::TooDeep { line: 22 })
+    );
     Ok(())
 }
 

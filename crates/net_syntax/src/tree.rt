@@ -1,6 +1,5 @@
 //! The tree of a network.
 ghost use Rattle.std.specs.Prelude.{◌≡◌, ◌<◌, ◌≤◌, ◌↔◌, [], ◌∷◌, ◌++◌, length, slice_get, Some, IsTrue};
-
 ghost use Rattle.std.specs.Prelude.{OnOk, OnErr, option_map};
 ghost use Rattle.net_syntax.specs.Tree.{Empty, with_last, statements_of};
 ghost use Rattle.net_syntax.specs.View.{block_view, statement_view};
@@ -35,7 +34,9 @@ pub enum Test {
 pub enum Statement {
     /// Reads a value into a variable.
     Get(Name, Var),
+    /// Reads a value and adds it to a variable.
     GetAdd(Name, Var),
+    /// Reads a value and subtracts it from a variable.
     GetSub(Name, Var),
     /// Sends the value of a variable.
     Put(Name, Var),
@@ -53,10 +54,15 @@ pub enum Statement {
     Neg(Var),
     /// Adds the variable to itself.
     Double(Var),
+    /// The first variable gets the value of the second.
     Copy(Var, Var),
+    /// The variables exchange their values.
     Swap,
+    /// Does the first block where the variable passes the test, and the second one where it doesn't.
     If(Var, Test, Block, Block),
+    /// Tests, and where the variable passes does the block and tests again.
     While(Var, Test, Block),
+    /// Where the variable is positive does the block, takes 1 from the variable, and looks again.
     Count(Var, Block),
 }
 
@@ -101,7 +107,7 @@ pub struct ProcessText {
     pub line: usize,
 }
 
-/// A network: its tiles, its inputs and outputs, its channels and its processes.
+/// A network: the version of its text, its tiles, its inputs and outputs, its channels and its processes.
 #[derive(Drop)]
 pub struct Net {
     pub version: u8,

@@ -27,12 +27,12 @@ pub tiles-preserved : goal.tiles-preserved
 tiles-preserved c =
     record {
       short =
-        let room = room_left c.push.result (length c.tiles.path) c.if-not-push.false c.push.ensures.full.0 in
-        let len = ap length c.if-not-push.ensures.pushed ∙ length-append c.tiles.path (c.in_ok-tile.tile ∷ []) in
-        omega (arith, room, len);
+          let room = room_left c.push.result (length c.tiles.path) c.if-not-push.false c.push.ensures.full.0 in
+          let len = ap length c.if-not-push.ensures.pushed ∙ length-append c.tiles.path (c.in_ok-tile.tile ∷ []) in
+          omega (arith, room, len);
       same =
-        c.tiles.invariant.same
-        ∙ path_more c.tiles.path c.push.new.self c.tiles.words c.next.new.self c.in-Some.word.now c.in_ok-tile.tile c.in-Some.ensures (sym c.number_of.ensures.number ∙ c.in_ok-tile.was) c.if-not-push.ensures.pushed;
+          c.tiles.invariant.same
+          ∙ path_more c.tiles.path c.push.new.self c.tiles.words c.next.new.self c.in-Some.word.now c.in_ok-tile.tile c.in-Some.ensures (sym c.number_of.ensures.number ∙ c.in_ok-tile.was) c.if-not-push.ensures.pushed;
     }
 
 pub returns : goal.returns
