@@ -1,2 +1,3 @@
 pub mod Stacks
 pub mod Grammar
+pub mod Building

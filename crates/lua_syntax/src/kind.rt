@@ -2,7 +2,7 @@
 use crate::tree::BinaryOp;
 
 /// What a name can stand for besides itself: `math` and `table` are libraries.
-#[derive(Clone, Copy, Debug, PartialEq, Eq)]
+#[derive(Clone, Copy)]
 pub enum Role {
     Plain,
     Math,
@@ -10,7 +10,7 @@ pub enum Role {
 }
 
 /// What kind of token a piece of the text is.
-#[derive(Clone, Copy, Debug, PartialEq, Eq)]
+#[derive(Clone, Copy)]
 pub enum Kind {
     /// A space, a tab, a line end or a comment, which is no token.
     Blank,

@@ -1,10 +1,14 @@
 //! Lua.
 #![tactic(auto)]
 
+mod building;
+mod expression_actions;
 mod expressions;
 mod kind;
+mod parts;
 mod row;
 mod stack;
+mod statement_actions;
 mod statements;
 mod symbol;
 mod targets;

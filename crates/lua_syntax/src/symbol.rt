@@ -7,7 +7,7 @@ use arrayvec::ArrayVec;
 use std::marker::Model;
 
 /// A token that has to come.
-#[derive(Clone, Copy, Debug, PartialEq, Eq)]
+#[derive(Clone, Copy)]
 pub enum Mark {
     Name,
     Assign,
@@ -20,7 +20,7 @@ pub enum Mark {
 }
 
 /// What is made of the parts that were read last.
-#[derive(Clone, Copy, Debug, PartialEq, Eq)]
+#[derive(Clone, Copy)]
 pub enum Action {
     Nothing,
     /// What was opened since is closed: so many are open again.
@@ -73,7 +73,7 @@ pub enum Action {
 
 /// A symbol of the grammar. A number is the line of a token that came before, a truth value says
 /// whether a loop stands around.
-#[derive(Clone, Copy, Debug, PartialEq, Eq, Default)]
+#[derive(Clone, Copy, Default)]
 pub enum Symbol {
     #[default]
     Chunk,
