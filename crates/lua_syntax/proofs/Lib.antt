@@ -1,3 +1,4 @@
 pub mod Numerals
 pub mod StringReading
 pub mod Comments
+pub mod Stepping

@@ -4,3 +4,4 @@ pub mod Building
 pub mod Tokens
 pub mod Reading
 pub mod Steps
+pub mod Defines

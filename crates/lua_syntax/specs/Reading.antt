@@ -4,6 +4,7 @@ use Rattle.std.specs.Prelude.{ℕ, ◌+◌, Bool, true, false, if◌then◌else�
 use Rattle.lua_syntax.specs.declared.tree.Item.{Item}
 use Rattle.lua_syntax.specs.declared.kind.Kind.{Kind}
 use Rattle.lua_syntax.specs.declared.kind.Kind.TheVariants as k
+use Rattle.lua_syntax.specs.declared.symbol.Action.{Action}
 use Rattle.lua_syntax.specs.declared.symbol.Symbol.{Symbol}
 use Rattle.lua_syntax.specs.declared.symbol.Symbol.TheVariants as s
 use Rattle.lua_syntax.specs.declared.symbol.Row.{Row}
@@ -23,11 +24,11 @@ pub record Reading : Type 0 where
 
 -- what a token leads to
 pub data Step : Type 0 where
-  pub Goes : Reading → Step
+  Goes : Reading → Step
   -- the token can't come
-  pub Wrong : Step
+  Wrong : Step
   -- one too many is open
-  pub Deep : Step
+  Deep : Step
 
 -- a name and a string keep their bytes
 abbrev pub keeps_text : Kind → List ℕ → Building → Building
@@ -52,27 +53,30 @@ begun_by _ stack token parts = Wrong
 abbrev pub begun : List Symbol → Token → Building → Step
 begun stack token parts = begun_by (operand_row parts.opened token.kind token.line) stack token parts
 
+-- the step of a stack by the row of its top, where `behind` is the step of the rest once an action was done
+abbrev pub by_row : Row → (Action → Step) → List Symbol → Token → Building → Step
+by_row (Takes body) behind stack token parts = taken (body ++ stack) token parts
+by_row (Opens body) behind stack token parts = opened (body ++ stack) token parts
+by_row (Begins more) behind stack token parts = begun (more ++ stack) token parts
+by_row (Passes action) behind stack token parts = behind action
+by_row Refuses behind stack token parts = Wrong
+
 -- the step of a stack before a token
 unfoldable pub step : List Symbol → Token → Building → Step
 step [] token parts = Wrong
 step (symbol ∷ stack) token parts =
-    elim (row symbol parts.opened token.kind token.line) [
-      Takes body ↦ taken (body ++ stack) token parts
-    | Opens body ↦ opened (body ++ stack) token parts
-    | Begins behind ↦ begun (behind ++ stack) token parts
-    | Passes action ↦ step stack token (act action parts)
-    | Refuses ↦ Wrong
-    ]
+    by_row (row symbol parts.opened token.kind token.line) (λ action. step stack token (act action parts)) stack token parts
+
+-- what a step gives, where `behind` is what the further tokens give
+abbrev pub by_step : Step → (Reading → Result (List Item) LuaSyntax) → ℕ → Result (List Item) LuaSyntax
+by_step (Goes reading) behind line = behind reading
+by_step Wrong behind line = Err (Syntax line)
+by_step Deep behind line = Err (TooDeep line)
 
 -- the items that the tokens give
 unfoldable pub run : Reading → List Token → Result (List Item) LuaSyntax
 run reading [] = Ok reading.parts.items
-run reading (token ∷ tokens) =
-    elim (step reading.stack token reading.parts) [
-      Goes next ↦ run next tokens
-    | Wrong ↦ Err (Syntax token.line)
-    | Deep ↦ Err (TooDeep token.line)
-    ]
+run reading (token ∷ tokens) = by_step (step reading.stack token reading.parts) (λ next. run next tokens) token.line
 
 -- the tree of a text, or what is wrong with it
 unfoldable pub tree_of : List ℕ → Result (List Item) LuaSyntax

@@ -29,8 +29,9 @@ impl Error for LuaSyntax {}
 
 impl From<NoMemory> for LuaSyntax {
     ghost use Rattle.std.specs.Prelude.{◌≡◌};
+    ghost use Rattle.lua_syntax.specs.declared.error.LuaSyntax.TheVariants as e;
 
-    ghost from_gives = { λ _ e. e ≡ LuaSyntax.NoMemory };
+    ghost from_gives = { λ _ given. given ≡ e.NoMemory };
 
     fn from(_: NoMemory) -> Self {
         LuaSyntax::NoMemory

@@ -2,11 +2,13 @@
 #![tactic(auto)]
 
 mod building;
+mod chunk;
 mod cutting;
 mod error;
 mod expression_actions;
 mod expressions;
 mod kind;
+mod parse;
 mod parts;
 mod piece;
 mod reading;
@@ -21,6 +23,7 @@ mod text;
 mod tree;
 mod words;
 
+pub use chunk::Chunk;
 pub use error::LuaSyntax;
 pub use text::Text;
 pub use tree::{Arm, BinaryOp, Entry, Expr, Item, LuaBlock, LuaStatement, UnaryOp};

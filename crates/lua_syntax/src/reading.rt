@@ -28,8 +28,11 @@ pub enum Led {
 fn push_all(stack: &mut Stack<Symbol>, body: &Body) -> Result<(), NoMemory>
     ensures { OnOk result (stack.new ≡ body.now ++ stack.old) }
 {
-    for symbol in body.symbols().iter().rev() {
-        stack.push(*symbol)?;
+    let symbols = body.symbols();
+    let mut at = symbols.len();
+    while at > 0 {
+        at -= 1;
+        stack.push(symbols[at])?;
     }
     Ok(())
 }
