@@ -2,3 +2,5 @@ pub mod Numerals
 pub mod StringReading
 pub mod Comments
 pub mod Stepping
+pub mod Places
+pub mod Wholes

@@ -1,12 +1,12 @@
 -- What a step of the code has to do with the step that is meant.
-use Rattle.std.specs.Prelude.{◌≡◌, ◌≢◌, ℕ, List, ◌∷◌, Result, Ok, Err}
+use Rattle.std.specs.Prelude.{◌≡◌, ◌≢◌, ℕ, List, ◌∷◌, ◌++◌, Result, Ok, Err}
 use Rattle.tis_base.specs.declared.memory.NoMemory as memory
 use Rattle.lua_syntax.specs.declared.tree.Item.{Item}
 use Rattle.lua_syntax.specs.declared.error.LuaSyntax.{LuaSyntax}
 use Rattle.lua_syntax.specs.declared.error.LuaSyntax.TheVariants.{NoMemory}
 use Rattle.lua_syntax.specs.declared.piece.Piece.{Piece}
 use Rattle.lua_syntax.specs.declared.piece.Token.{Token}
-use Rattle.lua_syntax.specs.Tokens.{onto_tokens}
+use Rattle.lua_syntax.specs.Tokens.{onto_tokens, cut}
 use Rattle.lua_syntax.specs.declared.symbol.Symbol.{Symbol}
 use Rattle.lua_syntax.specs.declared.building.Building.{Building}
 use Rattle.lua_syntax.specs.declared.reading.Led.{Led}
@@ -43,3 +43,12 @@ FailsAt stack parts piece line e = e ≢ NoMemory → (more : List Token) →
 -- the items that were wanted, or the refusal, unless memory ran out
 abbrev pub Parses : Result (List Item) LuaSyntax → LuaSyntax → Type 0
 Parses wanted e = e ≢ NoMemory → wanted ≡ Err e
+
+-- the same for all the tokens of a text
+abbrev pub AllLeadTo : List Symbol → Building → List ℕ → List Symbol → Building → Type 0
+AllLeadTo stack parts text new_stack new_parts = (more : List Token) →
+    run (record { stack = stack; parts = parts }) (cut 0 0 text ++ more) ≡ run (record { stack = new_stack; parts = new_parts }) more
+
+abbrev pub AllFailAt : List Symbol → Building → List ℕ → LuaSyntax → Type 0
+AllFailAt stack parts text e = e ≢ NoMemory → (more : List Token) →
+    run (record { stack = stack; parts = parts }) (cut 0 0 text ++ more) ≡ Err e
