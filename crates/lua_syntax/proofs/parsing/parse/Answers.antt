@@ -3,7 +3,7 @@ use Rattle.std.proofs.lemmas.Result.{err_from_is_err_and}
 use Rattle.lua_syntax.specs.declared.symbol.Symbol.{Symbol}
 use Rattle.lua_syntax.specs.declared.symbol.Symbol.TheVariants as s
 use Rattle.lua_syntax.proofs.Wholes.{whole, whole_fails, all_fails}
-use Rattle.lua_syntax.proofs.parse.parse.Goals as goal
+use Rattle.lua_syntax.proofs.parsing.parse.Goals as goal
 
 pub returns-clause-tree : goal.returns-clause-tree
 returns-clause-tree c =

@@ -3,7 +3,7 @@ use Rattle.std.proofs.lemmas.Result.{err_from_is_err_and}
 use Rattle.std.proofs.lemmas.Grind.{common_steps}
 use Rattle.lua_syntax.specs.Tokens.{piece}
 use Rattle.lua_syntax.proofs.Places.{reaches_on, reaches_fails}
-use Rattle.lua_syntax.proofs.parse.feed_all.Goals as goal
+use Rattle.lua_syntax.proofs.parsing.feed_all.Goals as goal
 
 fits : {len rest all at : ℕ} → rest ≡ all - at → len ≤ rest → at < all → at + len ≤ all
 fits e w t = omega arith
