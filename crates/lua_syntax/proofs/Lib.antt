@@ -4,3 +4,4 @@ pub mod Comments
 pub mod Stepping
 pub mod Places
 pub mod Wholes
+pub mod Examples
