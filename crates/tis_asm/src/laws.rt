@@ -3,6 +3,7 @@ ghost use Rattle.tis_asm.specs.Counting.{StepsAddUp};
 ghost use Rattle.tis_asm.specs.Passing.{MovesPassValues, EmptyProgramsRest};
 ghost use Rattle.tis_asm.specs.Progress.{NodesGoOn, FreshFits, StepsKeepFitting};
 ghost use Rattle.tis_asm.specs.ReadingBack.{ProgramsReadBack, LinesReadBack};
+ghost use Rattle.tis_asm.specs.Soundness.{AssembledAreWhole};
 
 /// A node whose program is one `MOV` between ports passes each value on, in order.
 pub fn moves_pass_values()
@@ -40,4 +41,10 @@ pub fn nodes_go_on()
 pub fn nodes_fit()
     ensures fresh { FreshFits }
     ensures steps { StepsKeepFitting }
+{}
+
+/// Every text that spells a program spells one of at most fifteen instructions, whose numbers are
+/// values and whose jumps stay inside.
+pub fn assembled_are_whole()
+    ensures { AssembledAreWhole }
 {}
