@@ -118,7 +118,7 @@ two_labels = refl
 no_label : assembled (codes ": NOP\n") ≡ Err (BadLine 1)
 no_label = refl
 
--- the program without an instruction has a label that names nothing
+-- a label may stand where no instruction is
 label_alone : assembled (codes "a:\n#\n\n") ≡ Ok []
 label_alone = refl
 

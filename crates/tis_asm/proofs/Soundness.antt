@@ -5,7 +5,7 @@ use Rattle.std.specs.Str.{bytes_eq}
 use Rattle.std.proofs.lemmas.Bool.{cond_both, cases_Bool}
 use Rattle.tis_base.specs.Saturation.{sat, IsValue}
 use Rattle.tis_base.proofs.Saturating.{sat_is_value}
-use Rattle.tis_base.specs.Lines.{text_lines, pieces_where}
+use Rattle.tis_base.specs.Lines.{pieces_where}
 use Rattle.tis_asm.specs.declared.instr.Source.{Source}
 use Rattle.tis_asm.specs.declared.instr.Source.TheVariants as from
 use Rattle.tis_asm.specs.declared.instr.Dest.{Dest}
@@ -249,6 +249,6 @@ assembled_held lines =
     let code = without_blank_end lines in
     cond_both (nat_lt 15 (length code)) (Err TooManyLines) (program_where (lines_read 1 [] code)) (λ program. Gets IsWhole program) (λ many. tt) (λ few. where_held (length code) (lines_read 1 [] code) (omega (arith, ltb-false 15 (length code) few)) (lines_held code 1 []))
 
--- every text that spells a program spells such a one
+-- all lines that spell a program spell such a one
 pub assembled_are_whole : AssembledAreWhole
-assembled_are_whole text program is = subst (λ (result : Result (List MarkedInstr) AsmRefusal). Gets IsWhole result) is (assembled_held (text_lines text))
+assembled_are_whole lines program is = subst (λ (result : Result (List MarkedInstr) AsmRefusal). Gets IsWhole result) is (assembled_held lines)

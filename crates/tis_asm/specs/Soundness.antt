@@ -1,8 +1,8 @@
--- What every program is that a text spells.
+-- What every program is that lines spell.
 use Rattle.std.specs.Prelude.{◌≡◌, ◌≤◌, ℕ, List, length, Ok}
 use Rattle.tis_asm.specs.declared.program.MarkedInstr.{MarkedInstr}
 use Rattle.tis_asm.specs.Programs.{HasValues, IsSound}
-use Rattle.tis_asm.specs.Assembling.{assembled}
+use Rattle.tis_asm.specs.Assembling.{assembled_lines}
 
 -- it has at most fifteen instructions, its numbers are values, and its jumps stay inside
 pub record IsWhole (program : List MarkedInstr) : Type 0 where
@@ -10,6 +10,6 @@ pub record IsWhole (program : List MarkedInstr) : Type 0 where
   pub values : HasValues program
   pub sound : IsSound program
 
--- every text that spells a program spells such a one
+-- all lines that spell a program spell such a one, and so does every text
 abbrev pub AssembledAreWhole : Type 0
-AssembledAreWhole = (text : List ℕ) (program : List MarkedInstr) → assembled text ≡ Ok program → IsWhole program
+AssembledAreWhole = (lines : List (List ℕ)) (program : List MarkedInstr) → assembled_lines lines ≡ Ok program → IsWhole program

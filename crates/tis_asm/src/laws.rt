@@ -20,12 +20,12 @@ pub fn steps_add_up()
     ensures { StepsAddUp }
 {}
 
-/// The canonical text of a program whose numbers are values is read as that program.
+/// The canonical text of a program whose jumps stay inside is read as that program.
 pub fn programs_read_back()
     ensures { ProgramsReadBack }
 {}
 
-/// The canonical lines of a program whose numbers are values are read as that program, whatever
+/// The canonical lines of a program whose jumps stay inside are read as that program, whatever
 /// blank lines follow.
 pub fn lines_read_back()
     ensures { LinesReadBack }
@@ -37,13 +37,14 @@ pub fn nodes_go_on()
     ensures { NodesGoOn }
 {}
 
-/// A fresh node is one of each program, and a step leads from a node of a program to one of it.
+/// A fresh node is one of each program, and a step leads from a node of a program to one of it, where
+/// its numbers are values and its jumps stay inside.
 pub fn nodes_fit()
     ensures fresh { FreshFits }
     ensures steps { StepsKeepFitting }
 {}
 
-/// Every text that spells a program spells one of at most fifteen instructions, whose numbers are
+/// All lines that spell a program spell one of at most fifteen instructions, whose numbers are
 /// values and whose jumps stay inside.
 pub fn assembled_are_whole()
     ensures { AssembledAreWhole }
