@@ -11,7 +11,7 @@ use Rattle.tis_asm.specs.declared.instr.Instr.TheVariants.{Nop, Mov, Swp, Sav, A
 use Rattle.tis_asm.specs.declared.instr.Jump.TheVariants as jump
 use Rattle.tis_asm.specs.declared.program.MarkedInstr.{MarkedInstr}
 use Rattle.tis_asm.specs.Code.{code_text}
-use Rattle.tis_asm.specs.Assembling.{TooManyLines, BadLine, RepeatedLabel, UnknownLabel, assembled}
+use Rattle.tis_asm.specs.Assembling.{TooManyLines, LongLine, BadLine, RepeatedLabel, UnknownLabel, assembled}
 use Rattle.tis_asm.specs.Node.{Node, Ready, Writing, One, can_local, local_step, wants, take_value, offers, gave}
 
 -- ---- texts
@@ -92,6 +92,35 @@ bad_before_unknown = refl
 -- at most fifteen lines, of which a blank one at the end is none but one with a comma is
 sixteen_lines : assembled (codes "\n\n\n\n\n\n\n\n\n\n\n\n\n\n\n,\n") ≡ Err TooManyLines
 sixteen_lines = refl
+
+-- at most eighty bytes, with the comment and without the CR
+eighty_bytes : assembled (codes "NOP #xxxxxxxxxxxxxxxxxxxxxxxxxxxxxxxxxxxxxxxxxxxxxxxxxxxxxxxxxxxxxxxxxxxxxxxxxxx\r\n") ≡ Ok (plain Nop ∷ [])
+eighty_bytes = refl
+
+more_bytes : assembled (codes "NOP\nNOP #xxxxxxxxxxxxxxxxxxxxxxxxxxxxxxxxxxxxxxxxxxxxxxxxxxxxxxxxxxxxxxxxxxxxxxxxxxxx\n") ≡ Err (LongLine 2)
+more_bytes = refl
+
+-- a line that is wrong in its form is refused as such, though its label stands above
+bad_and_repeated : assembled (codes "a:\na: FOO\n") ≡ Err (BadLine 2)
+bad_and_repeated = refl
+
+-- no gap is needed behind `!` and `:`, and one may stand before `:`
+tight : assembled (codes "!a\t:!JLZ a\n") ≡ Ok (record { instr = Jump jump.IfNegative 0; mark = true } ∷ [])
+tight = refl
+
+-- a label has no `!` in it, and is one word
+marked_label : assembled (codes "a!: NOP\n") ≡ Err (BadLine 1)
+marked_label = refl
+
+two_labels : assembled (codes "a b: NOP\n") ≡ Err (BadLine 1)
+two_labels = refl
+
+no_label : assembled (codes ": NOP\n") ≡ Err (BadLine 1)
+no_label = refl
+
+-- a label may stand where no instruction is
+label_alone : assembled (codes "a:\n#\n\n") ≡ Ok []
+label_alone = refl
 
 -- ---- steps
 

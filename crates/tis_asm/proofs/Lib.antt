@@ -6,4 +6,5 @@ pub mod Counting
 pub mod Numbers
 pub mod CodeLines
 pub mod ReadingBack
+pub mod Soundness
 pub mod Examples

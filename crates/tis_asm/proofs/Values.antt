@@ -1,9 +1,33 @@
--- The numbers of a program.
-use Rattle.std.proofs.Common.{List, [], ◌∷◌, ◌++◌}
+-- The numbers of a program, and its jumps.
+use Rattle.std.proofs.Common.{◌≡◌, ℕ, zero, suc, List, [], ◌∷◌, ◌++◌, length, take, Bool, true, false, subst, sym, refl, Some}
+use Rattle.std.specs.Prelude.{slice_get, IsTrue, ◌↔◌}
 use Rattle.tis_asm.specs.declared.program.MarkedInstr.{MarkedInstr}
-use Rattle.tis_asm.specs.Programs.{InstrHasValue, HasValues}
+use Rattle.tis_asm.specs.Programs.{InstrHasValue, HasValues, JumpsWithin, JumpWithin, IsSound}
 
 -- one more instruction whose number is a value
 pub has_values_push : (program : List MarkedInstr) (marked : MarkedInstr) → HasValues program → InstrHasValue marked.instr → HasValues (program ++ marked ∷ [])
 has_values_push [] marked are is = (is, tt)
 has_values_push (first ∷ program) marked are is = (are.0, has_values_push program marked are.1 is)
+
+-- one more instruction whose jump stays inside
+pub jump_within_more : (count : ℕ) (program : List MarkedInstr) (index : ℕ) (marked : MarkedInstr) → slice_get program index ≡ Some marked → JumpWithin count (take index program) → JumpsWithin count marked.instr → JumpWithin count (take (suc index) program)
+jump_within_more count [] index marked found within is = absurd cc
+jump_within_more count (first ∷ program) zero marked found within is = let same : marked ≡ first = cc in (subst (λ (m : MarkedInstr). JumpsWithin count m.instr) same is, tt)
+jump_within_more count (first ∷ program) (suc index) marked found within is = (within.0, jump_within_more count program index marked found within.1 is)
+
+-- each jump of a sound program stays inside
+pub jump_within_at : (count : ℕ) (program : List MarkedInstr) (index : ℕ) (marked : MarkedInstr) → slice_get program index ≡ Some marked → JumpWithin count program → JumpsWithin count marked.instr
+jump_within_at count [] index marked found within = absurd cc
+jump_within_at count (first ∷ program) zero marked found within = let same : first ≡ marked = cc in subst (λ (m : MarkedInstr). JumpsWithin count m.instr) same within.0
+jump_within_at count (first ∷ program) (suc index) marked found within = jump_within_at count program index marked found within.1
+
+-- a program one of whose jumps leaves it isn't sound
+pub ends_outside : (inside : Bool) (count : ℕ) (program : List MarkedInstr) (index : ℕ) (marked : MarkedInstr) → inside ≡ false → count ≡ length program → slice_get program index ≡ Some marked → (IsTrue inside ↔ JumpsWithin count marked.instr) → (IsTrue false ↔ IsSound program)
+ends_outside true count program index marked outside is found tells = absurd cc
+ends_outside false count program index marked outside is found tells =
+    ((λ wrong. absurd cc), (λ sound. tells.1 (subst (λ (n : ℕ). JumpsWithin n marked.instr) (sym is) (jump_within_at (length program) program index marked found sound))))
+
+-- a jump that stays inside
+pub stays_inside : (inside : Bool) (count : ℕ) (program : List MarkedInstr) (marked : MarkedInstr) → inside ≡ true → count ≡ length program → (IsTrue inside ↔ JumpsWithin count marked.instr) → JumpsWithin (length program) marked.instr
+stays_inside true count program marked here is tells = subst (λ (n : ℕ). JumpsWithin n marked.instr) is (tells.0 refl)
+stays_inside false count program marked here is tells = absurd cc

@@ -7,3 +7,4 @@ pub mod Progress
 pub mod Passing
 pub mod Counting
 pub mod ReadingBack
+pub mod Soundness

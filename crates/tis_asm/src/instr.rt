@@ -1,11 +1,11 @@
 //! The instructions of a compute node.
-ghost use Rattle.std.specs.Prelude.{◌≡◌};
+ghost use Rattle.std.specs.Prelude.{◌≡◌, ◌↔◌, IsTrue};
 ghost use Rattle.tis_base.specs.declared.tiles.Dir.TheVariants.{Up, Down};
 ghost use Rattle.tis_asm.specs.declared.instr.Source.TheVariants as from;
 ghost use Rattle.tis_asm.specs.declared.instr.Dest.TheVariants as to;
 ghost use Rattle.tis_asm.specs.declared.instr.Instr.TheVariants.{Mov};
 ghost use Rattle.tis_asm.specs.Code.{jumps_to};
-ghost use Rattle.tis_asm.specs.Programs.{SourceHasValue, InstrHasValue};
+ghost use Rattle.tis_asm.specs.Programs.{SourceHasValue, InstrHasValue, JumpsWithin};
 
 use tis_base::{Dir, Value};
 
@@ -98,6 +98,16 @@ impl Instr {
         match self {
             Instr::Jump(_, target) => *target == number,
             _ => false,
+        }
+    }
+
+    // Whether it is no jump, or one to the first so many instructions.
+    pub(crate) fn jumps_within(&self, count: u8) -> bool
+        ensures { IsTrue result ↔ JumpsWithin count self.now }
+    {
+        match self {
+            Instr::Jump(_, target) => *target < count,
+            _ => true,
         }
     }
 

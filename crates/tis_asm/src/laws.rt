@@ -3,6 +3,7 @@ ghost use Rattle.tis_asm.specs.Counting.{StepsAddUp};
 ghost use Rattle.tis_asm.specs.Passing.{MovesPassValues, EmptyProgramsRest};
 ghost use Rattle.tis_asm.specs.Progress.{NodesGoOn, FreshFits, StepsKeepFitting};
 ghost use Rattle.tis_asm.specs.ReadingBack.{ProgramsReadBack, LinesReadBack};
+ghost use Rattle.tis_asm.specs.Soundness.{AssembledAreWhole};
 
 /// A node whose program is one `MOV` between ports passes each value on, in order.
 pub fn moves_pass_values()
@@ -19,12 +20,12 @@ pub fn steps_add_up()
     ensures { StepsAddUp }
 {}
 
-/// The canonical text of a program whose numbers are values is read as that program.
+/// The canonical text of a program whose jumps stay inside is read as that program.
 pub fn programs_read_back()
     ensures { ProgramsReadBack }
 {}
 
-/// The canonical lines of a program whose numbers are values are read as that program, whatever
+/// The canonical lines of a program whose jumps stay inside are read as that program, whatever
 /// blank lines follow.
 pub fn lines_read_back()
     ensures { LinesReadBack }
@@ -36,8 +37,15 @@ pub fn nodes_go_on()
     ensures { NodesGoOn }
 {}
 
-/// A fresh node is one of each program, and a step leads from a node of a program to one of it.
+/// A fresh node is one of each program, and a step leads from a node of a program to one of it, where
+/// its numbers are values and its jumps stay inside.
 pub fn nodes_fit()
     ensures fresh { FreshFits }
     ensures steps { StepsKeepFitting }
+{}
+
+/// All lines that spell a program spell one of at most fifteen instructions, whose numbers are
+/// values and whose jumps stay inside.
+pub fn assembled_are_whole()
+    ensures { AssembledAreWhole }
 {}

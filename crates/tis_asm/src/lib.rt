@@ -9,8 +9,8 @@ mod text;
 
 pub use instr::{Dest, Instr, Jump, Source};
 pub use laws::{
-    empty_programs_rest, lines_read_back, moves_pass_values, nodes_fit, nodes_go_on,
-    programs_read_back, steps_add_up,
+    assembled_are_whole, empty_programs_rest, lines_read_back, moves_pass_values, nodes_fit,
+    nodes_go_on, programs_read_back, steps_add_up,
 };
 pub use program::Program;
 pub use programs::Programs;

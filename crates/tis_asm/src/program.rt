@@ -1,7 +1,7 @@
 //! The program of one node.
 ghost use Rattle.std.specs.Prelude.{◌≡◌, ◌<◌, ◌↔◌, [], ◌∷◌, ◌++◌, length, slice_get, option_map, Some, IsTrue, ◌≤◌};
 ghost use Rattle.std.specs.Bool.{OnTrue, OnFalse};
-ghost use Rattle.tis_asm.specs.Programs.{HasValues};
+ghost use Rattle.tis_asm.specs.Programs.{HasValues, IsSound};
 ghost use Rattle.tis_asm.specs.Code.{is_target};
 
 use crate::instr::Instr;
@@ -93,6 +93,20 @@ impl Program {
         self.instrs
             .iter()
             .any(|marked| marked.instr.jumps_to(number))
+    }
+
+    /// Whether each jump goes to an instruction of the program.
+    pub fn sound(&self) -> bool
+        ensures { IsTrue result ↔ IsSound self.now }
+    {
+        let count = self.len();
+        for index in 0..count {
+            let marked = self.marked_instr(index);
+            if !marked.instr.jumps_within(count) {
+                return false;
+            }
+        }
+        true
     }
 
     /// One more instruction at the end, with a mark or without one. False, and the program stays as
