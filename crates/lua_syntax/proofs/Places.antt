@@ -36,7 +36,7 @@ cut_piece before [] some moves = absurd (omega arith)
 cut_piece before (b ∷ z) some moves =
     let e : suc ((piece (b ∷ z)).len - 1) ≡ (piece (b ∷ z)).len = omega arith in
     ap (onto_tokens (piece (b ∷ z)) (before + 1))
-      (cut_inside (suc ((piece (b ∷ z)).len - 1)) before (b ∷ z) ∙ ap (λ n. cut 0 (before + line_ends (take n (b ∷ z))) (drop n (b ∷ z))) e)
+    (cut_inside (suc ((piece (b ∷ z)).len - 1)) before (b ∷ z) ∙ ap (λ n. cut 0 (before + line_ends (take n (b ∷ z))) (drop n (b ∷ z))) e)
 
 -- what the loop knows at a place, behind so many line ends
 abbrev pub Reaches : List Symbol → Building → List ℕ → ℕ → ℕ → List Symbol → Building → Type 0

@@ -26,6 +26,7 @@ mod error;
 mod expression_actions;
 mod expressions;
 mod kind;
+pub mod laws;
 mod parsing;
 mod parts;
 mod piece;

@@ -12,7 +12,10 @@ pub enum Item {
         body: LuaBlock,
     },
     /// `name = value`
-    Assign { name: Text, value: Expr },
+    Assign {
+        name: Text,
+        value: Expr,
+    },
 }
 
 /// Statements, in order.
@@ -149,18 +152,9 @@ pub enum Expr {
 #[cycle(expression)]
 #[derive(Drop)]
 pub enum Entry {
-    Value {
-        value: Expr,
-    },
-    Named {
-        name: Text,
-        value: Expr,
-    },
-    Keyed {
-        key: Expr,
-        value: Expr,
-        line: usize,
-    },
+    Value { value: Expr },
+    Named { name: Text, value: Expr },
+    Keyed { key: Expr, value: Expr, line: usize },
 }
 
 #[derive(Clone, Copy, Debug, PartialEq, Eq)]
