@@ -1,5 +1,5 @@
--- What is made of the parts that were read. The parts lie on stacks, one for each sort, and each action takes
--- the newest. An empty stack would count as `nil`, an empty name or an empty list; the grammar never has one.
+-- What is made of the parts that were read: the actions of the grammar, over stacks of parts, one for each sort. Most
+-- take the newest. So that each action is defined everywhere, an empty stack counts as `nil`, an empty name or an empty list.
 use Rattle.std.specs.Prelude.{ℕ, List, [], ◌∷◌, ◌++◌, Option, Some, None}
 use Rattle.lua_syntax.specs.declared.tree.Item.{Item}
 use Rattle.lua_syntax.specs.declared.tree.Item.TheVariants as item
@@ -41,7 +41,7 @@ block b = roll-LuaBlock (record { statements = top [] b.blocks })
 
 -- ---- where a new part goes
 
--- in place of as many of the newest expressions as were taken
+-- on top of the expressions
 abbrev pub with_expression : Expr → Building → Building
 with_expression new b = record b { exprs = new ∷ b.exprs }
 
@@ -132,7 +132,7 @@ act_block (a.ForStep line) b = with_statement (statement.For (text b) (third b) 
 act_block a.Do b = with_statement (statement.Do (block b)) (less_block b)
 act_block _ b = b
 
--- ---- items of the chunk
+-- ---- items of the chunk, and the count of what is open
 
 unfoldable pub act_item : Action → Building → Building
 act_item a.StartParameters b = record b { params = [] }

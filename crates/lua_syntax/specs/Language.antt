@@ -1,4 +1,5 @@
--- The language of the grammar, without regard to how deep it nests: which tokens a stack of symbols derives.
+-- The language of the table, without a bound on how deep it nests: which tokens a stack of symbols derives. The count of
+-- what is open is carried along since symbols keep it, and nothing is refused for it.
 use Rattle.std.specs.Prelude.{◌≡◌, ℕ, ◌+◌, List, [], ◌∷◌, ◌++◌, Result, Ok, Err}
 use Rattle.lua_syntax.specs.declared.tree.Item.{Item}
 use Rattle.lua_syntax.specs.declared.symbol.Action.{Action}
@@ -13,6 +14,7 @@ use Rattle.lua_syntax.specs.Tokens.{tokens}
 use Rattle.lua_syntax.specs.Reading.{Reading, keeps_text, run, tree_of}
 use Rattle.lua_syntax.specs.declared.symbol.Symbol.TheVariants as s
 
+-- one more is open
 abbrev pub with_one_more : Building → Building
 with_one_more parts = record parts { opened = parts.opened + 1 }
 
@@ -43,7 +45,8 @@ pub data Derives : List Symbol → Building → List Token → Type 0 where
 abbrev pub IsChunk : List Token → Type 0
 IsChunk tokens = Derives (s.Chunk ∷ []) nothing_read tokens
 
--- where a text has no tree for its syntax: the line is that of a token with which no chunk goes on, whatever would come behind it
+-- the line is that of a token of the text behind which nothing can come that makes a chunk. This doesn't say that it is the
+-- first such token: that some chunk begins with what stands before it is seen by reading the table and in tests
 abbrev pub GoesWrongAt : List Token → ℕ → Type 0
 GoesWrongAt tokens line = (before : List Token) × (token : Token) × (behind : List Token) ×
     (tokens ≡ before ++ token ∷ behind) × (token.line ≡ line) × ((more : List Token) → IsChunk (before ++ token ∷ more) → ⊥)

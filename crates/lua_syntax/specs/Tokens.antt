@@ -1,5 +1,5 @@
 -- A text is cut into tokens, from left to right, each as long as it can be. Spaces, tabs, line ends and comments
--- part them. What begins no token is a token of the kind `Bad`, with which no chunk goes on.
+-- part them. What begins no token is a token of the kind `Bad`, which no row takes. Past the end a byte reads as 0.
 use Rattle.std.specs.Prelude.{ℕ, zero, suc, ◌+◌, ◌-◌, ◌*◌, ◌^◌, min, pos, Bool, true, false, not, ◌&&◌, ◌||◌, if◌then◌else◌, ◌==◌, nat_le, List, [], ◌∷◌, ◌++◌, length, take, drop, fold, count_by, slice_index, Option, Some, None, codes}
 use Rattle.std.specs.Char.{is_ascii_digit, is_ascii_alphabetic, is_ascii_alphanumeric}
 use Rattle.std.specs.List.{prefix_len}
@@ -41,6 +41,7 @@ abbrev pub lookup : List (List ℕ × Kind) → List ℕ → Kind
 lookup [] word = k.Name Plain
 lookup (entry ∷ entries) word = if bytes_eq entry.0 word then entry.1 else lookup entries word
 
+-- what a word is
 unfoldable pub word_kind : List ℕ → Kind
 word_kind word = lookup words word
 
@@ -54,6 +55,7 @@ numeral_value = fold (λ n b. 10 * n + (b - 48)) 0
 abbrev pub greatest : ℕ
 greatest = 9007199254740992
 
+-- a numeral, which is no token above the greatest number
 unfoldable pub numeral_kind : List ℕ → Kind
 numeral_kind digits = if nat_le (numeral_value digits) greatest then k.Number (pos (numeral_value digits)) else k.Bad
 
@@ -101,9 +103,11 @@ abbrev pub word_of : Kind → List ℕ → Piece
 word_of (k.Name role) word = record { kind = k.Name role; text = word; len = length word }
 word_of kind word = plain kind (length word)
 
+-- a name or a reserved word
 unfoldable pub word_piece : List ℕ → Piece
 word_piece z = word_of (word_kind (take (past class.Word z 0) z)) (take (past class.Word z 0) z)
 
+-- a numeral, the longest run of digits
 unfoldable pub numeral_piece : List ℕ → Piece
 numeral_piece z = plain (numeral_kind (take (past class.Digit z 0) z)) (past class.Digit z 0)
 
@@ -111,6 +115,7 @@ abbrev pub string_of : Option (List ℕ × ℕ) → Piece
 string_of None = bad
 string_of (Some found) = record { kind = k.Str; text = found.0; len = found.1 + 1 }
 
+-- a string
 unfoldable pub string_piece : List ℕ → Piece
 string_piece z = string_of (quoted (slice_index z 0) (drop 1 z))
 
@@ -119,6 +124,7 @@ abbrev pub one_more : Option ℕ → Option ℕ
 one_more None = None
 one_more (Some n) = Some (n + 1)
 
+-- counted from the front
 abbrev pub closing : List ℕ → Option ℕ
 closing [] = None
 closing (b ∷ z) = if b == 93 && slice_index z 0 == 93 then Some 2 else one_more (closing z)
@@ -179,6 +185,7 @@ sign_piece z =
     else (if b == 45 then (if next == 45 then comment_piece z else plain k.Minus 1)
     else two_byte_sign b next))
 
+-- the piece at the front, by its first byte
 unfoldable pub piece : List ℕ → Piece
 piece z =
     let b = slice_index z 0 in
