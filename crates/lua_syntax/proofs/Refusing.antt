@@ -1,21 +1,17 @@
 -- What the grammar derives follows the steps, so that a token which a step refuses is one with which no chunk goes on.
-use Rattle.std.proofs.Common.{◌≡◌, ℕ, ◌+◌, Bool, true, false, List, [], ◌∷◌, ◌++◌, refl, ap, ◌∙◌, sym, subst, Ok, Err, Result}
+use Rattle.std.proofs.Common.{◌≡◌, ℕ, Bool, true, false, List, [], ◌∷◌, ◌++◌, refl, ap, ◌∙◌, sym, subst, Err}
 use Rattle.std.specs.Prelude.{if◌then◌else◌, nat_lt}
-use Rattle.lua_syntax.specs.declared.tree.Item.{Item}
-use Rattle.lua_syntax.specs.declared.symbol.Action.{Action}
 use Rattle.lua_syntax.specs.declared.symbol.Symbol.{Symbol}
 use Rattle.lua_syntax.specs.declared.symbol.Symbol.TheVariants as s
 use Rattle.lua_syntax.specs.declared.symbol.Row.{Row}
-use Rattle.lua_syntax.specs.declared.symbol.Row.TheVariants.{Takes, Opens, Begins, Passes, Refuses}
 use Rattle.lua_syntax.specs.declared.building.Building.{Building}
 use Rattle.lua_syntax.specs.declared.piece.Token.{Token}
-use Rattle.lua_syntax.specs.declared.error.LuaSyntax.{LuaSyntax}
-use Rattle.lua_syntax.specs.declared.error.LuaSyntax.TheVariants.{Syntax, TooDeep}
-use Rattle.lua_syntax.specs.Grammar.{row, operand_row, most_open}
+use Rattle.lua_syntax.specs.declared.error.LuaSyntax.TheVariants.{Syntax}
+use Rattle.lua_syntax.specs.Grammar.{most_open}
 use Rattle.lua_syntax.specs.Building.{act, nothing_read}
 use Rattle.lua_syntax.specs.Tokens.{tokens}
-use Rattle.lua_syntax.specs.Reading.{Reading, Step, Goes, Wrong, Deep, keeps_text, taken, opened, begun, begun_by, step, by_step, run, tree_of}
-use Rattle.lua_syntax.specs.Language.{Derives, nothing, takes, opens, begins, begins_open, ends, with_one_more, IsChunk, GoesWrongAt}
+use Rattle.lua_syntax.specs.Reading.{Reading, Step, Goes, Wrong, Deep, keeps_text, taken, opened, begun_by, step, by_step, run, tree_of}
+use Rattle.lua_syntax.specs.Language.{Derives, takes, opens, begins, begins_open, ends, with_one_more, GoesWrongAt}
 use Rattle.lua_syntax.proofs.Stepping.{step_takes, step_opens, step_begins, step_passes}
 
 -- what a step leaves derives the rest; a step that is refused leaves nothing to derive

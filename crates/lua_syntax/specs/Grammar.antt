@@ -6,7 +6,7 @@
 -- Open are: a block, from the word or the bracket before it to its end; a grouping and a constructor, up to the closing bracket;
 -- an operator, a dot, the bracket of an index and of a call, up to the end of what stands around: the grouping, the index, the
 -- item, the argument, the statement. There `Restore` sets the count back to what it was when that began.
-use Rattle.std.specs.Prelude.{ℕ, ◌+◌, min, Bool, true, false, ◌&&◌, if◌then◌else◌, nat_le, List, [], ◌∷◌, Option, Some, None}
+use Rattle.std.specs.Prelude.{ℕ, ◌+◌, min, Bool, true, false, if◌then◌else◌, nat_le, List, [], ◌∷◌, Option, Some, None}
 use Rattle.lua_syntax.specs.declared.tree.UnaryOp.TheVariants as unary
 use Rattle.lua_syntax.specs.declared.tree.BinaryOp.{BinaryOp}
 use Rattle.lua_syntax.specs.declared.tree.BinaryOp.TheVariants as binary

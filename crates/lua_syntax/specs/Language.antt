@@ -1,7 +1,6 @@
 -- The language of the table, without a bound on how deep it nests: which tokens a stack of symbols derives. The count of
 -- what is open is carried along since symbols keep it, and nothing is refused for it.
-use Rattle.std.specs.Prelude.{◌≡◌, ℕ, ◌+◌, List, [], ◌∷◌, ◌++◌, Result, Ok, Err}
-use Rattle.lua_syntax.specs.declared.tree.Item.{Item}
+use Rattle.std.specs.Prelude.{◌≡◌, ℕ, ◌+◌, List, [], ◌∷◌, ◌++◌, Err}
 use Rattle.lua_syntax.specs.declared.symbol.Action.{Action}
 use Rattle.lua_syntax.specs.declared.symbol.Symbol.{Symbol}
 use Rattle.lua_syntax.specs.declared.symbol.Row.TheVariants.{Takes, Opens, Begins, Passes}
@@ -11,7 +10,7 @@ use Rattle.lua_syntax.specs.declared.error.LuaSyntax.TheVariants.{Syntax}
 use Rattle.lua_syntax.specs.Grammar.{row, operand_row}
 use Rattle.lua_syntax.specs.Building.{act, nothing_read}
 use Rattle.lua_syntax.specs.Tokens.{tokens}
-use Rattle.lua_syntax.specs.Reading.{Reading, keeps_text, run, tree_of}
+use Rattle.lua_syntax.specs.Reading.{keeps_text, tree_of}
 use Rattle.lua_syntax.specs.declared.symbol.Symbol.TheVariants as s
 
 -- one more is open

@@ -4,7 +4,7 @@ use Rattle.std.specs.Prelude.{ℕ, ℤ, List, [], ◌∷◌, Option, Some, None,
 use Rattle.lua_syntax.specs.declared.tree.Expr.{Expr, Nil, True, False, Number, Str, Name, Index', Member', Call', MathCall', TableCall', Construct', Unary', Binary', Row_of-Expr, end_of-Expr, more_of-Expr, Row_of-Entry, end_of-Entry, more_of-Entry}
 use Rattle.lua_syntax.specs.declared.tree.Entry.{Entry, Value, Named, Keyed}
 use Rattle.lua_syntax.specs.declared.tree.LuaStatement.{LuaStatement, Local, Assign, SetIndex, SetMember, Call, If', While', Repeat', For', Do', Break, Return, Row_of-LuaStatement, end_of-LuaStatement, more_of-LuaStatement, Row_of-Arm, end_of-Arm, more_of-Arm, Held-LuaStatement-If-1, None', Some'}
-use Rattle.lua_syntax.specs.declared.tree.LuaBlock.{LuaBlock, out-LuaBlock}
+use Rattle.lua_syntax.specs.declared.tree.LuaBlock.{out-LuaBlock}
 use Rattle.lua_syntax.specs.declared.error.LuaSyntax.{LuaSyntax}
 use Rattle.lua_syntax.specs.declared.tree.Item.{Item}
 use Rattle.lua_syntax.specs.declared.tree.Item.TheVariants as item
