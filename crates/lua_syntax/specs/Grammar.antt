@@ -195,7 +195,7 @@ abbrev pub member_target_row : Role → ℕ → Kind → ℕ → Row
 member_target_row role dot_line (k.Name name) line = Takes (s.TargetMember role dot_line line ∷ [])
 member_target_row role dot_line _ line = Refuses
 
--- the call of a library's function
+-- the call of a library's function, where the name is that of a library
 abbrev pub library_target_row : Role → ℕ → Row
 library_target_row role name_line = if is_library role then Opens (called (library_call role name_line) (s.TargetCall ∷ [])) else Refuses
 
