@@ -1,0 +1,112 @@
+-- The definitions, computed on small texts.
+use Rattle.std.proofs.Common.{◌≡◌, ℕ, List, [], ◌∷◌, ◌++◌, Some, None, refl}
+use Rattle.std.specs.Prelude.{Result, Ok, Err, codes, pos, negsuc}
+use Rattle.std.specs.Fmt.{digits}
+use Rattle.tis_base.specs.declared.tiles.TileKind.TheVariants.{Compute}
+use Rattle.tis_base.specs.Tiles.{Tiles}
+use Rattle.net_syntax.specs.declared.tree.Var.TheVariants.{X, Y}
+use Rattle.net_syntax.specs.declared.tree.Test.TheVariants.{Zero, NotZero}
+use Rattle.net_syntax.specs.Tree.{Name, Statement, Get, Put, PutNumber, Move, If, While, Count, Block, Empty, Then, Net, NetRefusal, BadLine, TooDeep, StrayEnd, Unclosed}
+use Rattle.net_syntax.specs.Forms.{followed_by, number_of, value_of, tiles_of, next_word, at_end, tiles_to_end, path_of, via_of, at_of, port_of, channel_of, process_of, name_and_var, put_of, two_names, var_and_number, one_var, two_vars, test_against_zero, version_of, row_of, statement_of, keyword_of, said, form_of, lines_of, lines_up_to, Version, Malformed}
+use Rattle.net_syntax.specs.Words.{non_blank_lines}
+use Rattle.net_syntax.specs.Reading.{and_then, after_lines, net_of}
+use Rattle.net_syntax.specs.NetText.{net_text}
+
+-- the lines in front of a process's body
+abbrev head : List ℕ
+head = codes "net 1\ntiles CCCC CCCC CCCC\ninput a at 1 via\noutput o at 1 via 5 9\nprocess p at 1\n"
+
+-- twelve compute tiles
+abbrev bench : Tiles
+bench =
+    record {
+      shape = record { columns = 4; rows = 3 };
+      kinds = Compute ∷ Compute ∷ Compute ∷ Compute ∷ Compute ∷ Compute ∷ Compute ∷ Compute ∷ Compute ∷ Compute ∷ Compute ∷ Compute ∷ [];
+    }
+
+abbrev column : Block Name → Net
+column body =
+    record {
+      version = 1;
+      tiles = bench;
+      inputs = record { name = codes "a"; position = 1; via = Some []; line = 3 } ∷ [];
+      outputs = record { name = codes "o"; position = 1; via = Some (5 ∷ 9 ∷ []); line = 4 } ∷ [];
+      channels = [];
+      processes = record { name = codes "p"; at = Some 1; body = body; line = 5 } ∷ [];
+    }
+
+-- the network that only passes its values on, and what it becomes by one line less or more
+one_column :
+    (net_of (head ++ codes "move a o\nend\n") ≡ Ok (column (Then 6 (Move (codes "a") (codes "o")) Empty)))
+    × (net_of (head ++ codes "move a o\n") ≡ Err (Unclosed 5))
+    × (net_of (head ++ codes "move a o\nend\nend\n") ≡ Err (StrayEnd 8))
+    × (net_of (head ++ codes "put o 1\nend\n") ≡ Ok (column (Then 6 (PutNumber (codes "o") (pos 1)) Empty)))
+unfolding followed_by number_of value_of tiles_of next_word at_end tiles_to_end path_of via_of at_of port_of channel_of process_of name_and_var put_of two_names var_and_number one_var two_vars test_against_zero version_of row_of statement_of keyword_of said form_of lines_up_to lines_of and_then after_lines net_of
+one_column = (refl, refl, refl, refl)
+
+-- a missing or wrong first or second line
+heads :
+    (net_of [] ≡ Err (BadLine 1))
+    × (net_of (codes "\n\n# x\n") ≡ Err (BadLine 4))
+    × (net_of (codes "net 1\n\n# x\n") ≡ Err (BadLine 4))
+    × (net_of (codes "net 01\n") ≡ Err (BadLine 1))
+    × (net_of (codes "end\n") ≡ Err (StrayEnd 1))
+    × (net_of (codes "net 1\nelse\n") ≡ Err (StrayEnd 2))
+    × (net_of (codes "net 1\ntiles cccc CCCC CCCC\n") ≡ Err (BadLine 2))
+    × (net_of (codes "net 1\ntiles CCCC CCCC\n") ≡ Err (BadLine 2))
+unfolding followed_by number_of value_of tiles_of next_word at_end tiles_to_end path_of via_of at_of port_of channel_of process_of name_and_var put_of two_names var_and_number one_var two_vars test_against_zero version_of row_of statement_of keyword_of said form_of lines_up_to lines_of and_then after_lines net_of
+heads = (refl, refl, refl, refl, refl, refl, refl, refl)
+
+-- blanks, comments, CR, and keywords as names
+blanks :
+    (net_of (head ++ codes "# first\n\n  get  a\tx # into x\r\n \nput o -007\nend") ≡ Ok (column (Then 8 (Get (codes "a") X) (Then 10 (PutNumber (codes "o") (negsuc 6)) Empty))))
+    × (net_of (head ++ codes "move if end\nput else -0\nend\n") ≡ Ok (column (Then 6 (Move (codes "if") (codes "end")) (Then 7 (PutNumber (codes "else") (pos 0)) Empty))))
+unfolding followed_by number_of value_of tiles_of next_word at_end tiles_to_end path_of via_of at_of port_of channel_of process_of name_and_var put_of two_names var_and_number one_var two_vars test_against_zero version_of row_of statement_of keyword_of said form_of lines_up_to lines_of and_then after_lines net_of
+blanks = (refl, refl)
+
+-- blocks in blocks, with and without `else`
+nesting :
+    (net_of (head ++ codes "get a y\nif y = 0\nput o 1\nelse\nwhile y != 0\nget a y\nend\nend\ncount x\nend\nend\n") ≡ Ok (column (Then 6 (Get (codes "a") Y) (Then 7 (If Y Zero (Then 8 (PutNumber (codes "o") (pos 1)) Empty) (Then 10 (While Y NotZero (Then 11 (Get (codes "a") Y) Empty)) Empty)) (Then 14 (Count X Empty) Empty)))))
+    × (net_of (head ++ codes "if x = 0\nelse\nend\nend\n") ≡ Ok (column (Then 6 (If X Zero Empty Empty) Empty)))
+    × (net_of (head ++ codes "if x = 0\nelse\n") ≡ Err (Unclosed 6))
+    × (net_of (head ++ codes "if x = 0\nelse\nelse\n") ≡ Err (StrayEnd 8))
+    × (net_of (head ++ codes "while x = 0\nelse\n") ≡ Err (StrayEnd 7))
+    × (net_of (head ++ codes "count x\nelse\n") ≡ Err (StrayEnd 7))
+    × (net_of (head ++ codes "else\n") ≡ Err (StrayEnd 6))
+    × (net_of (head ++ codes "end x\n") ≡ Err (BadLine 6))
+    × (net_of (head ++ codes "if x = 00\n") ≡ Err (BadLine 6))
+unfolding followed_by number_of value_of tiles_of next_word at_end tiles_to_end path_of via_of at_of port_of channel_of process_of name_and_var put_of two_names var_and_number one_var two_vars test_against_zero version_of row_of statement_of keyword_of said form_of lines_up_to lines_of and_then after_lines net_of
+nesting = (refl, refl, refl, refl, refl, refl, refl, refl, refl)
+
+-- sixteen blocks may be open, and the seventeenth is refused
+too_deep :
+    (net_of (head ++ codes "if x = 0\nif x = 0\nif x = 0\nif x = 0\nif x = 0\nif x = 0\nif x = 0\nif x = 0\nif x = 0\nif x = 0\nif x = 0\nif x = 0\nif x = 0\nif x = 0\nif x = 0\nif x = 0\nif x = 0\n") ≡ Err (TooDeep 22))
+    × (net_of (head ++ codes "if x = 0\nif x = 0\nif x = 0\nif x = 0\nif x = 0\nif x = 0\nif x = 0\nif x = 0\nif x = 0\nif x = 0\nif x = 0\nif x = 0\nif x = 0\nif x = 0\nif x = 0\nif x = 0\nwhile y\n") ≡ Err (BadLine 22))
+    × (net_of (head ++ codes "if x = 0\nif x = 0\nif x = 0\nif x = 0\nif x = 0\nif x = 0\nif x = 0\nif x = 0\nif x = 0\nif x = 0\nif x = 0\nif x = 0\nif x = 0\nif x = 0\nif x = 0\nif x = 0\nput o 1\n") ≡ Err (Unclosed 21))
+    × (net_of (head ++ codes "if x = 0\nif x = 0\nif x = 0\nif x = 0\nif x = 0\nif x = 0\nif x = 0\nif x = 0\nif x = 0\nif x = 0\nif x = 0\nif x = 0\nif x = 0\nif x = 0\nif x = 0\nif x = 0\nelse\ncount y\n") ≡ Err (TooDeep 23))
+unfolding followed_by number_of value_of tiles_of next_word at_end tiles_to_end path_of via_of at_of port_of channel_of process_of name_and_var put_of two_names var_and_number one_var two_vars test_against_zero version_of row_of statement_of keyword_of said form_of lines_up_to lines_of and_then after_lines net_of
+too_deep = (refl, refl, refl, refl)
+
+-- lines that are wrong by themselves or where they stand
+wrong_lines :
+    (net_of (head ++ codes "get a x\nget a z\n") ≡ Err (BadLine 7))
+    × (net_of (head ++ codes "put o 1000\n") ≡ Err (BadLine 6))
+    × (net_of (head ++ codes "put o +1\n") ≡ Err (BadLine 6))
+    × (net_of (head ++ codes "get abcdefghijklmnopq x\n") ≡ Err (BadLine 6))
+    × (net_of (head ++ codes "channel c\n") ≡ Err (BadLine 6))
+    × (net_of (head ++ codes "end\nget a x\n") ≡ Err (BadLine 7))
+    × (net_of (head ++ codes "end\nchannel c via 100\n") ≡ Err (BadLine 7))
+    × (net_of (head ++ codes "end\ninput b at 4\n") ≡ Err (BadLine 7))
+    × (net_of (head ++ codes "end\ninput b at 03 via 007\nnet 1\n") ≡ Err (BadLine 8))
+unfolding followed_by number_of value_of tiles_of next_word at_end tiles_to_end path_of via_of at_of port_of channel_of process_of name_and_var put_of two_names var_and_number one_var two_vars test_against_zero version_of row_of statement_of keyword_of said form_of lines_up_to lines_of and_then after_lines net_of
+wrong_lines = (refl, refl, refl, refl, refl, refl, refl, refl, refl)
+
+-- past the last line that may say something every line is wrong
+past : lines_up_to 1 (non_blank_lines (codes "\nnet 1\n#\nend\n")) ≡ record { number = 2; form = Version } ∷ record { number = 4; form = Malformed } ∷ []
+unfolding followed_by next_word at_end version_of keyword_of said form_of lines_up_to
+past = refl
+
+-- the canonical text
+written : net_text (column (Then 6 (Move (codes "a") (codes "o")) Empty)) ≡ head ++ codes "move a o\nend\n"
+unfolding digits
+written = refl

@@ -1,0 +1,10 @@
+-- What holds of network texts, apart from any call.
+use Rattle.std.specs.Prelude.{◌≡◌, ℕ, List, Ok}
+use Rattle.net_syntax.specs.Tree.{Net}
+use Rattle.net_syntax.specs.Forms.{lines_of}
+use Rattle.net_syntax.specs.Grammar.{IsNet}
+use Rattle.net_syntax.specs.Reading.{net_of}
+
+-- the network that the lines of a text are is the one that the text gives
+abbrev pub NetworksAreRead : Type 0
+NetworksAreRead = (text : List ℕ) (net : Net) → IsNet (lines_of text) net → net_of text ≡ Ok net

@@ -1,0 +1,13 @@
+pub mod Names
+pub mod Tree
+pub mod Words
+pub mod Forms
+pub mod Grammar
+pub mod Reading
+pub mod NetText
+pub mod View
+pub mod Reads
+pub mod FormView
+pub mod ReaderView
+pub mod UnreadView
+pub mod Laws

@@ -1,0 +1,8 @@
+//! What holds of network texts, apart from any call.
+ghost use Rattle.net_syntax.specs.Laws.{NetworksAreRead};
+
+/// A text whose lines are a network by the grammar gives that network, and so it gives no other and
+/// is not refused.
+pub fn networks_are_read()
+    ensures { NetworksAreRead }
+{}

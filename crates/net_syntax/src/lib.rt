@@ -1,0 +1,48 @@
+//! The text of networks: processes that pass values to each other through channels.
+//!
+//! `read_net` gives the network that a text is, with the line of each declaration and statement, or
+//! the first refusal. What it gives is `net_of` of the text, and no more is said of want of memory
+//! than that it may be answered. The grammar over the lines of a text stands apart from the reader
+//! in `specs/Grammar.antt`: which lines are a block, which are a network, and what the first line is
+//! with which no network goes on. `networks_are_read` is the law that each network of the grammar is
+//! the one that is read.
+//!
+//! ```text
+//! let net = read_net(alloc, b"net 1\ntiles CCCC CCCC CCCC\nprocess p\nmove a o\nend\n")?;
+//! let body = &net.processes[0].body;
+//! let first = body.at(0);    // Statement::Move(a, o)
+//! let line = body.line(0);   // 4
+//! ```
+//!
+//! Contracts see the tree as plain data: `net_view` of `specs/View.antt`, in which a name is its
+//! bytes, a block is its statements one after the other, and a line is a number.
+//!
+//! A text is read in one pass. Time and memory grow with its length and not faster, and at most
+//! sixteen open statements are kept.
+//!
+//! It doesn't say whether a network can run: which names there are, who reads and who writes them.
+#![tactic(auto)]
+
+mod error;
+mod form;
+mod keyword;
+mod laws;
+mod lines;
+mod name;
+mod numeral;
+mod path;
+mod read;
+mod reader;
+mod tree;
+mod unread;
+mod words;
+
+pub use error::NetError;
+pub use laws::networks_are_read;
+pub use name::Name;
+pub use path::Path;
+pub use read::read_net;
+pub use tree::{Block, ChannelLine, Net, PortLine, ProcessText, Statement, Test, Var};
+
+#[cfg(test)]
+mod tests;
