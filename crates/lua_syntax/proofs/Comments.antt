@@ -1,6 +1,6 @@
 -- The end of a comment, looked for from a place on.
 use Rattle.std.proofs.Common.{◌≡◌, ℕ, suc, ◌+◌, ◌<◌, ◌≤◌, true, false, List, [], ◌∷◌, drop, length, get_or, refl, ap, ◌∙◌, sym, arith, add-one, drop-cons}
-use Rattle.std.specs.Prelude.{if◌then◌else◌, ◌==◌, ◌&&◌, slice_index, Option, Some, None}
+use Rattle.std.specs.Prelude.{◌==◌, ◌&&◌, Option, Some, None}
 use Rattle.std.proofs.lemmas.Grind.{common_steps}
 use Rattle.lua_syntax.specs.Tokens.{closing, one_more}
 use Rattle.lua_syntax.proofs.StringReading.{next_byte}

@@ -5,3 +5,4 @@ pub mod Stepping
 pub mod Places
 pub mod Wholes
 pub mod Examples
+pub mod Refusing

@@ -1,7 +1,6 @@
 -- Numerals: the held value tells whether the value is too large, and is the value where it isn't.
-use Rattle.std.proofs.Common.{◌≡◌, ℕ, ◌+◌, ◌-◌, ◌*◌, ◌<◌, ◌≤◌, min, true, false, cond, List, [], ◌∷◌, fold, refl, ap, ◌∙◌, sym, arith}
-use Rattle.std.specs.Prelude.{nat_le, if◌then◌else◌, pos}
-use Rattle.lua_syntax.specs.declared.kind.Kind.{Kind}
+use Rattle.std.proofs.Common.{◌≡◌, ℕ, ◌+◌, ◌-◌, ◌*◌, ◌<◌, ◌≤◌, min, true, false, List, [], ◌∷◌, fold, refl, arith}
+use Rattle.std.specs.Prelude.{nat_le, pos}
 use Rattle.lua_syntax.specs.declared.kind.Kind.TheVariants as k
 use Rattle.lua_syntax.specs.Tokens.{numeral_value, held_value, greatest, numeral_kind}
 

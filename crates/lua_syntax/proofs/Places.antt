@@ -1,18 +1,16 @@
 -- Tokens from a place on.
-use Rattle.std.proofs.Common.{◌≡◌, ◌≢◌, ℕ, zero, suc, ◌+◌, ◌-◌, ◌<◌, ◌≤◌, Bool, true, false, cond, List, [], ◌∷◌, ◌++◌, length, take, drop, refl, ap, ◌∙◌, sym, arith, Ok, Err, Result}
-use Rattle.std.specs.Prelude.{if◌then◌else◌, ◌==◌, count_by}
+use Rattle.std.proofs.Common.{◌≡◌, ℕ, zero, suc, ◌+◌, ◌-◌, ◌<◌, ◌≤◌, Bool, true, false, cond, List, [], ◌∷◌, ◌++◌, length, take, drop, refl, ap, ◌∙◌, sym, arith}
+use Rattle.std.specs.Prelude.{if◌then◌else◌, ◌==◌}
 use Rattle.std.proofs.lemmas.Grind.{common_steps}
 use Rattle.std.proofs.lemmas.List.{drop-drop}
 use Rattle.std.proofs.lemmas.List.Sums.{sum_by-cons}
-use Rattle.lua_syntax.specs.declared.tree.Item.{Item}
 use Rattle.lua_syntax.specs.declared.piece.Piece.{Piece}
 use Rattle.lua_syntax.specs.declared.piece.Token.{Token}
 use Rattle.lua_syntax.specs.declared.building.Building.{Building}
 use Rattle.lua_syntax.specs.declared.symbol.Symbol.{Symbol}
 use Rattle.lua_syntax.specs.declared.error.LuaSyntax.{LuaSyntax}
-use Rattle.lua_syntax.specs.declared.error.LuaSyntax.TheVariants.{NoMemory}
 use Rattle.lua_syntax.specs.Tokens.{piece, cut, line_ends, onto_tokens, is_blank}
-use Rattle.lua_syntax.specs.Reading.{Reading, run}
+use Rattle.lua_syntax.specs.Reading.{run}
 use Rattle.lua_syntax.specs.Steps.{LeadsTo, FailsAt, AllLeadTo, AllFailAt}
 
 stepped : (t : Bool) (before more : ℕ) → (if t then suc before else before) + more ≡ before + (cond t 1 0 + more)
@@ -36,7 +34,7 @@ cut_piece before [] some moves = absurd (omega arith)
 cut_piece before (b ∷ z) some moves =
     let e : suc ((piece (b ∷ z)).len - 1) ≡ (piece (b ∷ z)).len = omega arith in
     ap (onto_tokens (piece (b ∷ z)) (before + 1))
-      (cut_inside (suc ((piece (b ∷ z)).len - 1)) before (b ∷ z) ∙ ap (λ n. cut 0 (before + line_ends (take n (b ∷ z))) (drop n (b ∷ z))) e)
+    (cut_inside (suc ((piece (b ∷ z)).len - 1)) before (b ∷ z) ∙ ap (λ n. cut 0 (before + line_ends (take n (b ∷ z))) (drop n (b ∷ z))) e)
 
 -- what the loop knows at a place, behind so many line ends
 abbrev pub Reaches : List Symbol → Building → List ℕ → ℕ → ℕ → List Symbol → Building → Type 0

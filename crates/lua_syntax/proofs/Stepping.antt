@@ -1,5 +1,5 @@
 -- The step of a stack, by the row of its top.
-use Rattle.std.proofs.Common.{◌≡◌, List, [], ◌∷◌, ◌++◌, refl, ap, ◌∙◌, sym, Ok, Err}
+use Rattle.std.proofs.Common.{◌≡◌, List, [], ◌∷◌, ◌++◌, ap, ◌∙◌, sym, Err}
 use Rattle.lua_syntax.specs.declared.symbol.Action.{Action}
 use Rattle.lua_syntax.specs.declared.symbol.Symbol.{Symbol}
 use Rattle.lua_syntax.specs.declared.symbol.Row.{Row}

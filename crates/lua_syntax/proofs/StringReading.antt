@@ -4,7 +4,7 @@ use Rattle.std.proofs.lemmas.Bool.{ne_eqb}
 use Rattle.std.proofs.lemmas.List.{append-nil, get_or-drop}
 use Rattle.std.proofs.Common.{eq-eqb}
 use Rattle.std.proofs.lemmas.Grind.{common_steps}
-use Rattle.std.specs.Prelude.{if◌then◌else◌, ◌==◌, slice_index, Option, Some, None}
+use Rattle.std.specs.Prelude.{◌==◌, Option, Some, None}
 use Rattle.lua_syntax.specs.Tokens.{quoted, escape, onto, onto_escaped}
 
 -- what was read so far, before what is found

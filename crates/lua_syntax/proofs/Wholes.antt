@@ -1,14 +1,13 @@
 -- A whole text: its tokens up to its end, and then the end.
-use Rattle.std.proofs.Common.{◌≡◌, ◌≢◌, ℕ, List, [], ◌∷◌, ◌++◌, refl, ap, ◌∙◌, sym, Ok, Err, Result}
+use Rattle.std.proofs.Common.{◌≡◌, ℕ, List, [], ◌∷◌, ◌++◌, refl, ◌∙◌, sym, Ok}
 use Rattle.lua_syntax.specs.declared.kind.Kind.TheVariants as k
-use Rattle.lua_syntax.specs.declared.piece.Token.{Token}
 use Rattle.lua_syntax.specs.declared.building.Building.{Building}
 use Rattle.lua_syntax.specs.declared.symbol.Symbol.{Symbol}
 use Rattle.lua_syntax.specs.declared.symbol.Symbol.TheVariants as s
 use Rattle.lua_syntax.specs.declared.error.LuaSyntax.{LuaSyntax}
 use Rattle.lua_syntax.specs.Building.{nothing_read}
 use Rattle.lua_syntax.specs.Tokens.{cut, tokens, last_line}
-use Rattle.lua_syntax.specs.Reading.{Reading, run, tree_of}
+use Rattle.lua_syntax.specs.Reading.{run, tree_of}
 use Rattle.lua_syntax.specs.Steps.{TokenLeadsTo, TokenFailsAt, AllLeadTo, AllFailAt, Parses}
 
 -- the tree, from where reading starts

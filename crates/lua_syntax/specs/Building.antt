@@ -1,7 +1,6 @@
--- What is made of the parts that were read. The parts lie on stacks, one for each sort, and each action takes
--- the newest. An empty stack would count as `nil`, an empty name or an empty list; the grammar never has one.
-use Rattle.std.specs.Prelude.{ℕ, List, [], ◌∷◌, ◌++◌, Option, Some, None}
-use Rattle.lua_syntax.specs.declared.tree.Item.{Item}
+-- What is made of the parts that were read: the actions of the grammar, over stacks of parts, one for each sort. Most
+-- take the newest. So that each action is defined everywhere, an empty stack counts as `nil`, an empty name or an empty list.
+use Rattle.std.specs.Prelude.{ℕ, List, [], ◌∷◌, ◌++◌, Some, None}
 use Rattle.lua_syntax.specs.declared.tree.Item.TheVariants as item
 use Rattle.lua_syntax.specs.declared.tree.Expr.{Expr}
 use Rattle.lua_syntax.specs.declared.tree.Expr.TheVariants as e
@@ -10,7 +9,7 @@ use Rattle.lua_syntax.specs.declared.tree.Entry.TheVariants as entry
 use Rattle.lua_syntax.specs.declared.tree.LuaStatement.{LuaStatement}
 use Rattle.lua_syntax.specs.declared.tree.LuaStatement.TheVariants as statement
 use Rattle.lua_syntax.specs.declared.tree.LuaBlock.{LuaBlock, roll-LuaBlock}
-use Rattle.lua_syntax.specs.declared.tree.Arm.{Arm, roll-Arm}
+use Rattle.lua_syntax.specs.declared.tree.Arm.{roll-Arm}
 use Rattle.lua_syntax.specs.declared.symbol.Action.{Action}
 use Rattle.lua_syntax.specs.declared.symbol.Action.TheVariants as a
 use Rattle.lua_syntax.specs.declared.building.Building.{Building}
@@ -41,7 +40,7 @@ block b = roll-LuaBlock (record { statements = top [] b.blocks })
 
 -- ---- where a new part goes
 
--- in place of as many of the newest expressions as were taken
+-- on top of the expressions
 abbrev pub with_expression : Expr → Building → Building
 with_expression new b = record b { exprs = new ∷ b.exprs }
 
@@ -132,7 +131,7 @@ act_block (a.ForStep line) b = with_statement (statement.For (text b) (third b) 
 act_block a.Do b = with_statement (statement.Do (block b)) (less_block b)
 act_block _ b = b
 
--- ---- items of the chunk
+-- ---- items of the chunk, and the count of what is open
 
 unfoldable pub act_item : Action → Building → Building
 act_item a.StartParameters b = record b { params = [] }

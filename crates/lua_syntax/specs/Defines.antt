@@ -1,5 +1,5 @@
 -- Which functions a chunk has.
-use Rattle.std.specs.Prelude.{List, ℕ, [], ◌∷◌, Bool, true, false, ◌||◌}
+use Rattle.std.specs.Prelude.{List, ℕ, [], ◌∷◌, Bool, false, ◌||◌}
 use Rattle.std.specs.Str.{bytes_eq}
 use Rattle.lua_syntax.specs.declared.tree.Item.{Item}
 use Rattle.lua_syntax.specs.declared.tree.Item.TheVariants as item

@@ -1,7 +1,12 @@
--- The grammar, as rows of a table. A row says what becomes of a symbol before a token: the token is taken and
+-- The grammar, as the table of a parser that one token decides: a row is what becomes of a symbol (a terminal, a part of the
+-- grammar, or something to make) before a token. It says what becomes of a symbol before a token: the token is taken and
 -- symbols are left to come, or the symbol ends there, or the token can't come. A row that opens takes a token
 -- that opens something. What is made of the parts stands between the symbols.
-use Rattle.std.specs.Prelude.{ℕ, ◌+◌, min, Bool, true, false, ◌&&◌, if◌then◌else◌, nat_le, List, [], ◌∷◌, Option, Some, None}
+--
+-- Open are: a block, from the word or the bracket before it to its end; a grouping and a constructor, up to the closing bracket;
+-- an operator, a dot, the bracket of an index and of a call, up to the end of what stands around: the grouping, the index, the
+-- item, the argument, the statement. There `Restore` sets the count back to what it was when that began.
+use Rattle.std.specs.Prelude.{ℕ, ◌+◌, min, Bool, true, false, if◌then◌else◌, nat_le, List, [], ◌∷◌, Option, Some, None}
 use Rattle.lua_syntax.specs.declared.tree.UnaryOp.TheVariants as unary
 use Rattle.lua_syntax.specs.declared.tree.BinaryOp.{BinaryOp}
 use Rattle.lua_syntax.specs.declared.tree.BinaryOp.TheVariants as binary
@@ -22,7 +27,7 @@ use Rattle.lua_syntax.specs.declared.symbol.Row.TheVariants.{Takes, Opens, Begin
 abbrev pub most_open : ℕ
 most_open = 64
 
--- how many are open with one more
+-- how many are open with one more; past the most that may be open all counts are one
 abbrev pub inside : ℕ → ℕ
 inside opened = min opened most_open + 1
 
@@ -70,6 +75,7 @@ binary_of _ = None
 
 -- ---- tokens that have to come
 
+-- whether a token is the one that has to come
 abbrev pub is_mark : Mark → Kind → Bool
 is_mark m.Name (k.Name role) = true
 is_mark m.Assign k.Assign = true
@@ -161,6 +167,7 @@ for_step_row opened for_line _ = Refuses
 abbrev pub called : Action → List Symbol → List Symbol
 called call behind = s.Make a.StartArguments ∷ s.Arguments ∷ s.Make call ∷ behind
 
+-- what a call of a library makes
 abbrev pub library_call : Role → ℕ → Action
 library_call Math line = a.MathCall line
 library_call Table line = a.TableCall line
@@ -188,7 +195,7 @@ abbrev pub member_target_row : Role → ℕ → Kind → ℕ → Row
 member_target_row role dot_line (k.Name name) line = Takes (s.TargetMember role dot_line line ∷ [])
 member_target_row role dot_line _ line = Refuses
 
--- the call of a library's function
+-- the call of a library's function, where the name is that of a library
 abbrev pub library_target_row : Role → ℕ → Row
 library_target_row role name_line = if is_library role then Opens (called (library_call role name_line) (s.TargetCall ∷ [])) else Refuses
 
@@ -275,12 +282,13 @@ abbrev pub after_member_row : Role → ℕ → ℕ → Kind → Row
 after_member_row role dot_line name_line k.LeftParen = Opens (called (library_call role name_line) [])
 after_member_row role dot_line name_line _ = Passes (a.Member dot_line)
 
+-- members and indexes behind an operand that can have them
 abbrev pub suffix_row : ℕ → Kind → ℕ → Row
 suffix_row opened k.Dot line = Opens (s.Token m.Name ∷ s.Make (a.Member line) ∷ s.Suffix ∷ [])
 suffix_row opened k.LeftBracket line = Opens (indexed opened (s.Make (a.Index line) ∷ s.Suffix ∷ []))
 suffix_row opened _ line = Passes a.Nothing
 
--- arguments, parted by commas
+-- arguments, parted by commas, up to and with the closing bracket
 abbrev pub arguments_row : ℕ → Kind → Row
 arguments_row opened k.RightParen = Takes []
 arguments_row opened _ = Begins (s.Operators 1 ∷ s.Make a.AddArgument ∷ s.Make (a.Restore opened) ∷ s.MoreArguments ∷ [])
@@ -312,10 +320,12 @@ more_entries_row _ = Refuses
 abbrev pub item_goes_on : List Symbol
 item_goes_on = s.Suffix ∷ s.Operators 1 ∷ s.Make a.AddValue ∷ []
 
+-- behind a name with which an item begins: an operator, or the end of the item
 abbrev pub entry_operation : Option BinaryOp → ℕ → Row
 entry_operation (Some op) line = Opens (s.Make a.Name ∷ operation op line (s.Operators 1 ∷ s.Make a.AddValue ∷ []))
 entry_operation None line = Passes a.AddName
 
+-- behind a name and a dot with which an item begins
 abbrev pub entry_member : Role → ℕ → Row
 entry_member role line = if is_library role then Opens (s.Make a.Name ∷ s.LibraryName role line ∷ item_goes_on) else Opens (s.Make a.Name ∷ s.Token m.Name ∷ s.Make (a.Member line) ∷ item_goes_on)
 

@@ -5,3 +5,5 @@ pub mod Tokens
 pub mod Reading
 pub mod Steps
 pub mod Defines
+pub mod Language
+pub mod Plain

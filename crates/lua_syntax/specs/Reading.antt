@@ -1,6 +1,7 @@
--- Reading a text. Between two tokens a stack of symbols says what is still to come, the top first. Before a token
--- each symbol on top either ends or takes the token; the first token that the stack refuses is where no chunk goes on.
-use Rattle.std.specs.Prelude.{ℕ, ◌+◌, Bool, true, false, if◌then◌else◌, nat_lt, List, [], ◌∷◌, ◌++◌, Option, Some, None, Result, Ok, Err}
+-- How a text is read. Between two tokens a stack of symbols says what is still to come, the top first. Before a token
+-- the symbol on top takes it, or ends, or begins an operand with it, or refuses it. A token that is refused can't be
+-- followed by anything that makes the text a chunk (`Language.antt`).
+use Rattle.std.specs.Prelude.{ℕ, ◌+◌, if◌then◌else◌, nat_lt, List, [], ◌∷◌, ◌++◌, Result, Ok, Err}
 use Rattle.lua_syntax.specs.declared.tree.Item.{Item}
 use Rattle.lua_syntax.specs.declared.kind.Kind.{Kind}
 use Rattle.lua_syntax.specs.declared.kind.Kind.TheVariants as k
@@ -44,12 +45,13 @@ taken stack token parts = Goes (record { stack = stack; parts = keeps_text token
 abbrev pub opened : List Symbol → Token → Building → Step
 opened stack token parts = if nat_lt parts.opened most_open then taken stack token (record parts { opened = parts.opened + 1 }) else Deep
 
--- an operand begins with the token
+-- an operand begins with the token, by the row of an operand
 abbrev pub begun_by : Row → List Symbol → Token → Building → Step
 begun_by (Takes body) stack token parts = taken (body ++ stack) token parts
 begun_by (Opens body) stack token parts = opened (body ++ stack) token parts
 begun_by _ stack token parts = Wrong
 
+-- an operand begins with the token, and these symbols come behind it
 abbrev pub begun : List Symbol → Token → Building → Step
 begun stack token parts = begun_by (operand_row parts.opened token.kind token.line) stack token parts
 
@@ -73,7 +75,7 @@ by_step (Goes reading) behind line = behind reading
 by_step Wrong behind line = Err (Syntax line)
 by_step Deep behind line = Err (TooDeep line)
 
--- the items that the tokens give
+-- the items that the tokens give, or the first refusal. The last token of a text is its end, which the chunk alone takes: behind it nothing is still to come
 unfoldable pub run : Reading → List Token → Result (List Item) LuaSyntax
 run reading [] = Ok reading.parts.items
 run reading (token ∷ tokens) = by_step (step reading.stack token reading.parts) (λ next. run next tokens) token.line

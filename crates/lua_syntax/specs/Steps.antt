@@ -40,7 +40,7 @@ abbrev pub FailsAt : List Symbol → Building → Piece → ℕ → LuaSyntax �
 FailsAt stack parts piece line e = e ≢ NoMemory → (more : List Token) →
     run (record { stack = stack; parts = parts }) (onto_tokens piece line more) ≡ Err e
 
--- the items that were wanted, or the refusal, unless memory ran out
+-- what is wanted is this refusal, unless memory ran out
 abbrev pub Parses : Result (List Item) LuaSyntax → LuaSyntax → Type 0
 Parses wanted e = e ≢ NoMemory → wanted ≡ Err e
 

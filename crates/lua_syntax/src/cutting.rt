@@ -154,8 +154,18 @@ fn two_byte_sign(alloc: Global, b: u8, next: u8) -> Piece
         b'.' if next == b'.' => plain(alloc, Kind::Operator(BinaryOp::Join), 2),
         b'.' => plain(alloc, Kind::Dot, 1),
         b'=' => with_equals(alloc, next, BinaryOp::Equal, Kind::Assign),
-        b'<' => with_equals(alloc, next, BinaryOp::LessEqual, Kind::Operator(BinaryOp::Less)),
-        b'>' => with_equals(alloc, next, BinaryOp::GreaterEqual, Kind::Operator(BinaryOp::Greater)),
+        b'<' => with_equals(
+            alloc,
+            next,
+            BinaryOp::LessEqual,
+            Kind::Operator(BinaryOp::Less),
+        ),
+        b'>' => with_equals(
+            alloc,
+            next,
+            BinaryOp::GreaterEqual,
+            Kind::Operator(BinaryOp::Greater),
+        ),
         b'~' => with_equals(alloc, next, BinaryOp::NotEqual, Kind::Bad),
         _ => plain(alloc, sign_kind(b), 1),
     }

@@ -6,10 +6,9 @@ use tis_base::NoMemory;
 /// Why a text has no tree.
 #[derive(Clone, Copy, Debug, PartialEq, Eq)]
 pub enum LuaSyntax {
-    /// The line of the first token with which no chunk goes on, or the last line where the text ends
-    /// too early.
+    /// A token on this line can't come there. Where the end of the text can't, this is its last line.
     Syntax { line: usize },
-    /// The line of the token that makes the sixty-fifth open one.
+    /// A token on this line would open one construct more than 64.
     TooDeep { line: usize },
     /// Memory ran out.
     NoMemory,

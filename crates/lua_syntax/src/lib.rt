@@ -1,10 +1,11 @@
 //! The part of Lua that specifications are written in, from text to tree.
 //!
 //! [`parse`] gives the tree of a text ([`Chunk`], [`Item`], [`LuaStatement`], [`Expr`]), or says what is
-//! wrong with it and on which line: `Syntax` names the first token with which no chunk goes on, or the last
-//! line where the text ends too early, and `TooDeep` the token that makes the sixty-fifth open construct.
+//! wrong with it and on which line: `Syntax` names a token that can't come where it stands, or the last
+//! line where more had to come, and `TooDeep` a token that would open one construct more than 64.
 //! The layer above, which evaluates the tree, relies on this: the tree is `tree_of` of the bytes, a
-//! definition in `specs/Reading.antt`, and each field `line` is the line that a fault of that form names.
+//! definition in `specs/Reading.antt`. `laws` adds that nothing behind the token that `Syntax` names could
+//! make the text a chunk.
 //!
 //! ```text
 //! let chunk = parse(alloc, b"function f() return math.floor(7 / 2) end")?;
@@ -26,6 +27,7 @@ mod error;
 mod expression_actions;
 mod expressions;
 mod kind;
+pub mod laws;
 mod parsing;
 mod parts;
 mod piece;

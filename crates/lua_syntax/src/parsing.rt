@@ -1,5 +1,6 @@
 //! Texts to chunks.
 ghost use Rattle.std.specs.Prelude.{◌≡◌, ◌≢◌, ◌<◌, ◌≤◌, ◌+◌, [], ◌∷◌, ◌++◌, length, take, drop, Ok, Err, IfOk, IfErr, OnOk};
+ghost use Rattle.lua_syntax.specs.Plain.{plain_answer, plain_items};
 ghost use Rattle.lua_syntax.specs.Reading.{tree_of, run};
 ghost use Rattle.lua_syntax.specs.Steps.{TokenLeadsTo, TokenFailsAt, LeadsTo, FailsAt, AllLeadTo, AllFailAt, Parses};
 ghost use Rattle.lua_syntax.specs.Tokens as spec;
@@ -125,6 +126,7 @@ fn feed_all(
 #[tactic(auto, unfolding(crate::specs::Reading::tree_of, crate::specs::Tokens::tokens, crate::specs::Reading::run))]
 pub fn parse(alloc: Global, bytes: &[u8]) -> Result<Chunk, LuaSyntax>
     ensures tree { IfOk result (λ chunk. tree_of bytes.now ≡ Ok chunk) }
+    ensures plain { IfOk result (λ chunk. plain_answer (tree_of bytes.now) ≡ Ok (plain_items chunk)) }
     ensures refused { IfErr result (λ e. Parses (tree_of bytes.now) e) }
 {
     let mut stack = Stack::new(alloc);

@@ -2,11 +2,9 @@
 ghost use Rattle.std.specs.Prelude.{◌≡◌};
 ghost use Rattle.lua_syntax.specs.Grammar as spec;
 
-use crate::expressions as e;
 use crate::kind::Kind;
-use crate::statements as s;
 use crate::symbol::{Row, Symbol, begins};
-use crate::targets as t;
+use crate::{expressions as e, statements as s, targets as t};
 
 #[tactic(auto, unfolding(crate::specs::Grammar::row))]
 pub fn row(symbol: Symbol, opened: usize, kind: Kind, line: usize) -> Row

@@ -45,7 +45,12 @@ impl Building {
         let value = self.expression();
         let key = self.expression();
         let table = self.expression();
-        let new = LuaStatement::SetIndex { table, key, value, line };
+        let new = LuaStatement::SetIndex {
+            table,
+            key,
+            value,
+            line,
+        };
         self.add_statement(alloc, new)
     }
 
@@ -56,7 +61,12 @@ impl Building {
         let value = self.expression();
         let table = self.expression();
         let name = self.text(alloc);
-        let new = LuaStatement::SetMember { table, name, value, line };
+        let new = LuaStatement::SetMember {
+            table,
+            name,
+            value,
+            line,
+        };
         self.add_statement(alloc, new)
     }
 
@@ -110,7 +120,10 @@ impl Building {
         ensures { OnOk result (self.new ≡ spec.act_block Action.If self.old) }
     {
         let arms = self.arms(alloc);
-        let new = LuaStatement::If { arms, otherwise: None };
+        let new = LuaStatement::If {
+            arms,
+            otherwise: None,
+        };
         self.add_statement(alloc, new)
     }
 
@@ -150,7 +163,14 @@ impl Building {
         let first = self.expression();
         let name = self.text(alloc);
         let step = None;
-        let new = LuaStatement::For { name, first, last, step, body, line };
+        let new = LuaStatement::For {
+            name,
+            first,
+            last,
+            step,
+            body,
+            line,
+        };
         self.add_statement(alloc, new)
     }
 
@@ -163,7 +183,14 @@ impl Building {
         let last = self.expression();
         let first = self.expression();
         let name = self.text(alloc);
-        let new = LuaStatement::For { name, first, last, step, body, line };
+        let new = LuaStatement::For {
+            name,
+            first,
+            last,
+            step,
+            body,
+            line,
+        };
         self.add_statement(alloc, new)
     }
 

@@ -26,7 +26,11 @@ fn is_mark(mark: Mark, kind: Kind) -> bool
 pub fn token_row(mark: Mark, kind: Kind) -> Row
     ensures { result ≡ spec.token_row mark kind }
 {
-    if is_mark(mark, kind) { takes(&[]) } else { Row::Refuses }
+    if is_mark(mark, kind) {
+        takes(&[])
+    } else {
+        Row::Refuses
+    }
 }
 
 pub fn semicolon_row(kind: Kind) -> Row

@@ -1,8 +1,13 @@
-//! The tree of a text: one variant for each form of the language. Parentheses leave no mark.
+//! The tree of a text. Parentheses aren't kept.
+//!
+//! A `line` is where an error in that part is reported: of an operation the line of its operator, of a call that
+//! of the called name (behind `math.` and `table.` too), of an index that of its `[`, of a member that of its `.`,
+//! also where it is assigned to, of a string that of its quote, of a `for` that of the word, of an entry with a
+//! key that of its `[`.
 use crate::text::Text;
 use sqlite_items::{Boxed, Items};
 
-/// A definition of the chunk.
+/// An item of the chunk.
 #[derive(Drop)]
 pub enum Item {
     /// `function name(params) body end`
@@ -12,7 +17,10 @@ pub enum Item {
         body: LuaBlock,
     },
     /// `name = value`
-    Assign { name: Text, value: Expr },
+    Assign {
+        name: Text,
+        value: Expr,
+    },
 }
 
 /// Statements, in order.
@@ -30,7 +38,7 @@ pub struct Arm {
     pub body: LuaBlock,
 }
 
-/// A statement. A line is the one that a fault of this form names.
+/// A statement.
 #[cycle(block)]
 #[derive(Drop)]
 pub enum LuaStatement {
@@ -57,7 +65,7 @@ pub enum LuaStatement {
     Call {
         call: Expr,
     },
-    /// An `elseif` is a further arm.
+    /// The arms of `if` and of each `elseif`, and the block of `else`.
     If {
         arms: Items<Arm>,
         otherwise: Option<LuaBlock>,
@@ -66,10 +74,12 @@ pub enum LuaStatement {
         test: Expr,
         body: LuaBlock,
     },
+    /// The test sees the locals of the block.
     Repeat {
         body: LuaBlock,
         test: Expr,
     },
+    /// Without a step it is 1.
     For {
         name: Text,
         first: Expr,
@@ -87,13 +97,14 @@ pub enum LuaStatement {
     },
 }
 
-/// An expression. A line is the one that a fault of this form names.
+/// An expression.
 #[cycle(expression)]
 #[derive(Drop)]
 pub enum Expr {
     Nil,
     True,
     False,
+    /// At most 2^53.
     Number {
         value: i64,
     },
@@ -119,11 +130,13 @@ pub enum Expr {
         args: Items<Expr>,
         line: usize,
     },
+    /// `math.name(args)`
     MathCall {
         name: Text,
         args: Items<Expr>,
         line: usize,
     },
+    /// `table.name(args)`
     TableCall {
         name: Text,
         args: Items<Expr>,
@@ -149,23 +162,15 @@ pub enum Expr {
 #[cycle(expression)]
 #[derive(Drop)]
 pub enum Entry {
-    Value {
-        value: Expr,
-    },
-    Named {
-        name: Text,
-        value: Expr,
-    },
-    Keyed {
-        key: Expr,
-        value: Expr,
-        line: usize,
-    },
+    Value { value: Expr },
+    Named { name: Text, value: Expr },
+    Keyed { key: Expr, value: Expr, line: usize },
 }
 
 #[derive(Clone, Copy, Debug, PartialEq, Eq)]
 pub enum UnaryOp {
     Not,
+    /// `#`
     Length,
     Minus,
 }
@@ -180,10 +185,13 @@ pub enum BinaryOp {
     GreaterEqual,
     NotEqual,
     Equal,
+    /// `..`
     Join,
     Plus,
     Minus,
     Times,
+    /// `/`
     Over,
+    /// `%`
     Mod,
 }

@@ -1,4 +1,4 @@
-use Rattle.std.proofs.Common.{◌≡◌, ◌+◌, ◌-◌, ◌≤◌, length, drop}
+use Rattle.std.proofs.Common.{◌≡◌, ◌-◌, ◌≤◌, length, drop}
 use Rattle.lua_syntax.specs.Tokens.{closing}
 use Rattle.lua_syntax.proofs.Comments.{later}
 use Rattle.lua_syntax.proofs.cutting.closing.Given as goal

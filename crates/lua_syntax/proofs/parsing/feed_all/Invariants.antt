@@ -1,4 +1,4 @@
-use Rattle.std.proofs.Common.{◌≡◌, ◌-◌, ◌≤◌, length}
+use Rattle.std.proofs.Common.{◌-◌, ◌≤◌, length}
 use Rattle.lua_syntax.proofs.Places.{Reaches}
 use Rattle.lua_syntax.proofs.parsing.feed_all.Given as goal
 

@@ -1,4 +1,4 @@
-use Rattle.std.proofs.Common.{◌≡◌, ◌∙◌, sym, subst}
+use Rattle.std.proofs.Common.{◌∙◌, sym, subst}
 use Rattle.lua_syntax.specs.Reading.{Step}
 use Rattle.lua_syntax.specs.Steps.{Steps}
 use Rattle.lua_syntax.proofs.Stepping.{step_takes, step_opens, step_begins, step_passes, step_refuses, step_empty}

@@ -1,6 +1,6 @@
-use Rattle.std.proofs.Common.{◌≡◌, ◌≢◌, ◌+◌, ◌<◌, ◌≤◌, length, get_or, ap, ◌∙◌, sym, arith}
+use Rattle.std.proofs.Common.{ap, ◌∙◌, arith}
 use Rattle.lua_syntax.specs.Tokens.{escape}
-use Rattle.lua_syntax.proofs.StringReading.{before-nothing, at_end, at_closed, at_open, at_plain, at_no_escape, at_meant, Reading}
+use Rattle.lua_syntax.proofs.StringReading.{before-nothing, at_end, at_closed, at_open, at_plain, at_no_escape, at_meant}
 use Rattle.lua_syntax.proofs.strings.quoted.Goals as goal
 
 pub loop-at-init : goal.loop-at-init

@@ -1,4 +1,4 @@
-use Rattle.std.proofs.Common.{◌≡◌, ◌+◌, ◌-◌, ◌≤◌, length}
+use Rattle.std.proofs.Common.{◌-◌, ◌≤◌, length}
 use Rattle.lua_syntax.proofs.StringReading.{Reading}
 use Rattle.lua_syntax.proofs.strings.quoted.Given as goal
 

@@ -1,8 +1,5 @@
-use Rattle.std.proofs.Common.{◌≡◌, ◌<◌, ap, ◌∙◌, arith, w64}
-use Rattle.std.specs.Prelude.{pos}
+use Rattle.std.proofs.Common.{arith, w64}
 use Rattle.std.proofs.lemmas.Int.{to_z_pos}
-use Rattle.lua_syntax.specs.declared.kind.Kind.TheVariants as k
-use Rattle.lua_syntax.specs.Tokens.{held_value}
 use Rattle.lua_syntax.proofs.Numerals.{numeral_fits, numeral_too_large}
 use Rattle.lua_syntax.proofs.words.numeral_kind.Goals as goal
 
