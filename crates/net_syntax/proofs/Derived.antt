@@ -12,26 +12,26 @@ use Rattle.net_syntax.proofs.Limits.{goes_on, nothing_more}
 
 -- ---- blocks behind each other
 
-joined-empty : (block : Block Name) → joined block Empty ≡ block
+pub joined-empty : (block : Block Name) → joined block Empty ≡ block
 joined-empty Empty = refl
 joined-empty (Then number statement rest) = ap (λ (b : Block Name). Then number statement b) (joined-empty rest)
 
-joined-last : (block rest : Block Name) (number : ℕ) (statement : Statement Name) → joined (with_last block number statement) rest ≡ joined block (Then number statement rest)
+pub joined-last : (block rest : Block Name) (number : ℕ) (statement : Statement Name) → joined (with_last block number statement) rest ≡ joined block (Then number statement rest)
 joined-last Empty rest number statement = refl
 joined-last (Then n s block) rest number statement = ap (λ (b : Block Name). Then n s b) (joined-last block rest number statement)
 
 -- ---- one statement after the other
 
 -- a process that is open in this network
-abbrev during : Net → OpenProcess → Configuration
+abbrev pub during : Net → OpenProcess → Configuration
 during net opened = record { net = net; open_process = Some opened }
 
 -- the process with these statements in its innermost open block
-abbrev holding : OpenProcess → Block Name → OpenProcess
+abbrev pub holding : OpenProcess → Block Name → OpenProcess
 holding opened block = record opened { block = block }
 
 -- the process with one more open block
-abbrev inside : OpenProcess → ℕ → BlockRole → OpenProcess
+abbrev pub inside : OpenProcess → ℕ → BlockRole → OpenProcess
 inside opened number role = record opened { block = Empty; around = record { line = number; role = role; before = opened.block } ∷ opened.around }
 
 opened_is : (opened : OpenProcess) (number : ℕ) (role : BlockRole) (deeper : ℕ) → length opened.around + suc deeper ≤ 16 → with_open_block opened number role ≡ Ok (inside opened number role)
@@ -123,11 +123,11 @@ mutual
 -- ---- declarations and networks
 
 -- no process is open in this network
-abbrev between : Net → Configuration
+abbrev pub between : Net → Configuration
 between net = record { net = net; open_process = None }
 
 -- a process as it is opened
-abbrev begun : ProcessText → OpenProcess
+abbrev pub begun : ProcessText → OpenProcess
 begun process = record { name = process.name; at = process.at; line = process.line; block = Empty; around = [] }
 
 declaration_is : (declaration : Declaration) (lines : List Line) → IsDeclaration 16 declaration lines → (net : Net) (rest : List Line) → after_lines (between net) (lines ++ rest) ≡ after_lines (between (with_declaration net declaration)) rest
