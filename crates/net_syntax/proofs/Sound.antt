@@ -2,30 +2,16 @@
 use Rattle.std.proofs.Common.{◌≡◌, ℕ, zero, suc, ◌+◌, ◌≤◌, ◌<◌, ◌⊎◌, inl, inr, Bool, true, false, cond, List, [], ◌∷◌, ◌++◌, length, refl, sym, ap, subst, ◌∙◌, arith, append_assoc, length-append}
 use Rattle.std.specs.Prelude.{Option, Some, None, Result, Ok, Err, nat_lt}
 use Rattle.std.proofs.lemmas.Bool.Decides.{nat_tests}
-use Rattle.net_syntax.specs.Tree.{Name, Statement, Get, GetAdd, GetSub, Put, PutNumber, Move, Set, Add, Sub, Neg, Double, Copy, Swap, If, While, Count, Block, Empty, Then, joined, with_last, Net, NetRefusal, TooDeep, StrayEnd, BadLine}
+use Rattle.tis_base.specs.Tiles.{Tiles}
+use Rattle.net_syntax.specs.Tree.{Name, Statement, Get, GetAdd, GetSub, Put, PutNumber, Move, Set, Add, Sub, Neg, Double, Copy, Swap, If, While, Count, Block, Empty, Then, joined, with_last, PortLine, ChannelLine, ProcessText, Net, NetRefusal, TooDeep, StrayEnd, BadLine}
 use Rattle.net_syntax.specs.declared.tree.Var.{Var}
 use Rattle.net_syntax.specs.declared.tree.Test.{Test}
 use Rattle.net_syntax.specs.Forms as forms
-use Rattle.net_syntax.specs.Forms.{LineForm, Line}
-use Rattle.net_syntax.specs.Grammar.{line, IsBlock, IsStatement}
-use Rattle.net_syntax.specs.Reading.{BlockRole, FirstOf, SecondOf, WhileOf, CountOf, OpenStatement, OpenProcess, Configuration, after_line, after_lines, and_then, still_open, with_open_block}
+use Rattle.net_syntax.specs.Forms.{LineForm, Line, lines_of}
+use Rattle.net_syntax.specs.Grammar.{line, IsBlock, IsStatement, Declaration, DeclaresInput, DeclaresOutput, DeclaresChannel, DeclaresProcess, IsDeclaration, AreDeclarations, IsNet, next_number, bare_net, with_declaration, with_declarations}
+use Rattle.net_syntax.specs.Reading.{BlockRole, FirstOf, SecondOf, WhileOf, CountOf, OpenStatement, OpenProcess, Configuration, after_line, after_lines, and_then, still_open, with_open_block, net_at_end, after_all, after_version, tiles_of_line, head_of_line, net_with, net_of}
+use Rattle.net_syntax.specs.Laws.{IsPlain, IsPlainForm, ArePlain}
 use Rattle.net_syntax.proofs.Derived.{during, between, holding, inside, joined-empty, joined-last}
-
--- a statement without a block
-abbrev pub IsPlain : Statement Name → Type 0
-IsPlain (If var test first second) = ⊥
-IsPlain (While var test body) = ⊥
-IsPlain (Count var body) = ⊥
-IsPlain statement = Unit {0}
-
--- a line that says a statement says one without a block
-abbrev pub IsPlainForm : LineForm → Type 0
-IsPlainForm (forms.Simple statement) = IsPlain statement
-IsPlainForm form = Unit {0}
-
-abbrev pub ArePlain : List Line → Type 0
-ArePlain [] = Unit {0}
-ArePlain (l ∷ lines) = IsPlainForm l.form × ArePlain lines
 
 plain_is : (depth number : ℕ) (statement : Statement Name) → IsPlain statement → IsStatement depth number statement (line number (forms.Simple statement) ∷ [])
 plain_is depth number (Get read var) plain = refl
@@ -249,3 +235,125 @@ split_of zero net final opened depth [] few fits plain ok = absurd (apart net fi
 split_of zero net final opened depth (l ∷ lines) few fits plain ok = absurd (omega arith)
 split_of (suc fuel) net final opened depth [] few fits plain ok = absurd (apart net final opened ok)
 split_of (suc fuel) net final opened depth (l ∷ lines) few fits plain ok = by_form fuel net final (split_of fuel net final) opened depth l.number l.form lines (omega arith) fits plain.0 plain.1 ok
+
+-- ---- declarations and networks
+
+-- the lines are declarations, and the network is the one that they make
+record Declared (net final : Net) (lines : List Line) : Type 0 where
+  declarations : List Declaration
+  are : AreDeclarations 16 declarations lines
+  makes : final ≡ with_declarations net declarations
+
+one_more : (net final : Net) (declaration : Declaration) (first rest : List Line) → IsDeclaration 16 declaration first → Declared (with_declaration net declaration) final rest → Declared net final (first ++ rest)
+one_more net final declaration first rest is d = record { declarations = declaration ∷ d.declarations; are = (first, rest, refl, is, d.are); makes = d.makes }
+
+-- what is read of fewer lines
+abbrev Before : ℕ → Net → Type 0
+Before fuel final = (net : Net) (lines : List Line) → length lines ≤ fuel → ArePlain lines → after_lines (between net) lines ≡ Ok (between final) → Declared net final lines
+
+process_line : (fuel : ℕ) (net final : Net) → Before fuel final → (name : Name) (at : Option ℕ) (number : ℕ) (rest : List Line) → length rest ≤ fuel → ArePlain rest → after_lines (during net (record { name = name; at = at; line = number; block = Empty; around = [] })) rest ≡ Ok (between final) → Declared net final (line number (forms.Process name at) ∷ rest)
+unfolding after_lines and_then
+process_line fuel net final again name at number rest few plain ok =
+    let opened : OpenProcess = record { name = name; at = at; line = number; block = Empty; around = [] } in
+    let s = split_of fuel net final opened 16 rest few (omega arith) plain ok in
+    elim s.closes [
+      | inl end ↦
+        let process : ProcessText = record { name = name; at = at; body = s.body; line = number } in
+        subst (Declared net final) (sym (loop_lines number s.number (forms.Process name at) s.form rest s.inner s.behind s.split end))
+        (one_more net final (DeclaresProcess process) (line number (forms.Process name at) ∷ (s.inner ++ line s.number forms.End ∷ [])) s.behind (s.inner, s.number, refl, s.block)
+        (again (with_declaration net (DeclaresProcess process)) s.behind (fewer net final opened 16 fuel rest s few) s.plain (closing net final opened 16 rest s forms.End end)))
+      | inr other ↦ absurd (failed final _ (closing net final opened 16 rest s forms.Else other))
+    ]
+
+by_declaration : (fuel : ℕ) (net final : Net) → Before fuel final → (number : ℕ) (form : LineForm) (rest : List Line) → length rest ≤ fuel → ArePlain rest → after_lines (between net) (line number form ∷ rest) ≡ Ok (between final) → Declared net final (line number form ∷ rest)
+unfolding after_lines and_then
+by_declaration fuel net final again number (forms.Input name position via) rest few plain ok =
+    let port : PortLine = record { name = name; position = position; via = via; line = number } in
+    one_more net final (DeclaresInput port) (line number (forms.Input name position via) ∷ []) rest refl (again (with_declaration net (DeclaresInput port)) rest few plain ok)
+by_declaration fuel net final again number (forms.Output name position via) rest few plain ok =
+    let port : PortLine = record { name = name; position = position; via = via; line = number } in
+    one_more net final (DeclaresOutput port) (line number (forms.Output name position via) ∷ []) rest refl (again (with_declaration net (DeclaresOutput port)) rest few plain ok)
+by_declaration fuel net final again number (forms.Channel name via) rest few plain ok =
+    let channel : ChannelLine = record { name = name; via = via; line = number } in
+    one_more net final (DeclaresChannel channel) (line number (forms.Channel name via) ∷ []) rest refl (again (with_declaration net (DeclaresChannel channel)) rest few plain ok)
+by_declaration fuel net final again number (forms.Process name at) rest few plain ok = process_line fuel net final again name at number rest few plain ok
+by_declaration fuel net final again number (forms.Simple statement) rest few plain ok = absurd (failed final _ ok)
+by_declaration fuel net final again number (forms.OpensIf var test) rest few plain ok = absurd (failed final _ ok)
+by_declaration fuel net final again number (forms.OpensWhile var test) rest few plain ok = absurd (failed final _ ok)
+by_declaration fuel net final again number (forms.OpensCount var) rest few plain ok = absurd (failed final _ ok)
+by_declaration fuel net final again number forms.Else rest few plain ok = absurd (failed final _ ok)
+by_declaration fuel net final again number forms.End rest few plain ok = absurd (failed final _ ok)
+by_declaration fuel net final again number forms.Version rest few plain ok = absurd (failed final _ ok)
+by_declaration fuel net final again number (forms.TilesLine tiles) rest few plain ok = absurd (failed final _ ok)
+by_declaration fuel net final again number forms.Malformed rest few plain ok = absurd (failed final _ ok)
+
+same_net : (net final : Net) → ◌≡◌ {A = Result Configuration NetRefusal} (Ok (between net)) (Ok (between final)) → final ≡ net
+same_net net final e = sym (ap net_of_result e)
+  where
+    net_of_result : Result Configuration NetRefusal → Net
+    net_of_result (Ok sofar) = sofar.net
+    net_of_result (Err refusal) = net
+
+declared : (fuel : ℕ) (final net : Net) (lines : List Line) → length lines ≤ fuel → ArePlain lines → after_lines (between net) lines ≡ Ok (between final) → Declared net final lines
+unfolding after_lines
+declared zero final net [] few plain ok = record { declarations = []; are = refl; makes = same_net net final ok }
+declared zero final net (l ∷ lines) few plain ok = absurd (omega arith)
+declared (suc fuel) final net [] few plain ok = record { declarations = []; are = refl; makes = same_net net final ok }
+declared (suc fuel) final net (l ∷ lines) few plain ok = by_declaration fuel net final (declared fuel final) l.number l.form lines (omega arith) plain.1 ok
+
+-- at the end no process is open
+ends : (read : Result Configuration NetRefusal) (net : Net) → and_then read (λ sofar. net_at_end sofar.net sofar.open_process) ≡ Ok net → read ≡ Ok (between net)
+unfolding and_then
+ends (Err refusal) net e = absurd cc
+ends (Ok sofar) net e = by sofar.open_process refl e
+  where
+    by : (open_process : Option OpenProcess) → sofar.open_process ≡ open_process → net_at_end sofar.net open_process ≡ Ok net → ◌≡◌ {A = Result Configuration NetRefusal} (Ok sofar) (Ok (between net))
+    by None none is = let whole : sofar.net ≡ net = cc in ap (λ (n : Net). Ok (record { net = n; open_process = sofar.open_process })) whole ∙ ap (λ (p : Option OpenProcess). Ok (record { net = net; open_process = p })) none
+    by (Some opened) some is = absurd cc
+
+head_is : (number : ℕ) (form : LineForm) (behind : Result Configuration NetRefusal) (net : Net) → head_of_line number form behind ≡ Ok (between net) → (form ≡ forms.Version) × (behind ≡ Ok (between net))
+head_is number forms.Version behind net ok = (refl, ok)
+head_is number (forms.TilesLine tiles) behind net ok = absurd (failed net _ ok)
+head_is number (forms.Input name position via) behind net ok = absurd (failed net _ ok)
+head_is number (forms.Output name position via) behind net ok = absurd (failed net _ ok)
+head_is number (forms.Channel name via) behind net ok = absurd (failed net _ ok)
+head_is number (forms.Process name at) behind net ok = absurd (failed net _ ok)
+head_is number (forms.Simple statement) behind net ok = absurd (failed net _ ok)
+head_is number (forms.OpensIf var test) behind net ok = absurd (failed net _ ok)
+head_is number (forms.OpensWhile var test) behind net ok = absurd (failed net _ ok)
+head_is number (forms.OpensCount var) behind net ok = absurd (failed net _ ok)
+head_is number forms.Else behind net ok = absurd (failed net _ ok)
+head_is number forms.End behind net ok = absurd (failed net _ ok)
+head_is number forms.Malformed behind net ok = absurd (failed net _ ok)
+
+tiles_are : (number : ℕ) (form : LineForm) (lines : List Line) (net : Net) → and_then (tiles_of_line number form) (net_with lines) ≡ Ok (between net) → (tiles : Tiles) × (form ≡ forms.TilesLine tiles) × (net_with lines tiles ≡ Ok (between net))
+unfolding and_then
+tiles_are number forms.Version lines net ok = absurd (failed net _ ok)
+tiles_are number (forms.TilesLine tiles) lines net ok = (tiles, refl, ok)
+tiles_are number (forms.Input name position via) lines net ok = absurd (failed net _ ok)
+tiles_are number (forms.Output name position via) lines net ok = absurd (failed net _ ok)
+tiles_are number (forms.Channel name via) lines net ok = absurd (failed net _ ok)
+tiles_are number (forms.Process name at) lines net ok = absurd (failed net _ ok)
+tiles_are number (forms.Simple statement) lines net ok = absurd (failed net _ ok)
+tiles_are number (forms.OpensIf var test) lines net ok = absurd (failed net _ ok)
+tiles_are number (forms.OpensWhile var test) lines net ok = absurd (failed net _ ok)
+tiles_are number (forms.OpensCount var) lines net ok = absurd (failed net _ ok)
+tiles_are number forms.Else lines net ok = absurd (failed net _ ok)
+tiles_are number forms.End lines net ok = absurd (failed net _ ok)
+tiles_are number forms.Malformed lines net ok = absurd (failed net _ ok)
+
+-- the lines of what was read are that network
+pub lines_are : (next : ℕ) (lines : List Line) (net : Net) → ArePlain lines → after_all next lines ≡ Ok (between net) → IsNet lines net
+lines_are next [] net plain ok = absurd (failed net _ ok)
+lines_are next (first ∷ []) net plain ok = absurd (failed net _ (head_is first.number first.form (after_version next []) net ok).1)
+lines_are next (first ∷ second ∷ others) net plain ok =
+    let head = head_is first.number first.form (after_version next (second ∷ others)) net ok in
+    let tiles = tiles_are second.number second.form others net head.1 in
+    let d = declared (length others) net (bare_net tiles.0) others (omega arith) plain.1.1 tiles.2 in
+    let lines : first ∷ second ∷ others ≡ line first.number forms.Version ∷ (line second.number (forms.TilesLine tiles.0) ∷ others) =
+    ap (λ (f : LineForm). line first.number f ∷ (line second.number second.form ∷ others)) head.0 ∙ ap (λ (f : LineForm). line first.number forms.Version ∷ (line second.number f ∷ others)) tiles.1 in
+    (first.number, second.number, tiles.0, d.declarations, others, lines, d.are, d.makes)
+
+pub read_is_derived : (text : List ℕ) (net : Net) → ArePlain (lines_of text) → net_of text ≡ Ok net → IsNet (lines_of text) net
+unfolding net_of
+read_is_derived text net plain ok = lines_are (next_number text) (lines_of text) net plain (ends (after_all (next_number text) (lines_of text)) net ok)
