@@ -1,12 +1,12 @@
 -- The definitions, computed on small texts.
 use Rattle.std.proofs.Common.{◌≡◌, ℕ, List, [], ◌∷◌, ◌++◌, Some, None, refl}
-use Rattle.std.specs.Prelude.{Result, Ok, Err, codes, pos, negsuc}
+use Rattle.std.specs.Prelude.{Ok, Err, codes, pos, negsuc}
 use Rattle.std.specs.Fmt.{digits}
 use Rattle.tis_base.specs.declared.tiles.TileKind.TheVariants.{Compute, Memory, Damaged}
 use Rattle.tis_base.specs.Tiles.{Tiles}
 use Rattle.net_syntax.specs.declared.tree.Var.TheVariants.{X, Y}
 use Rattle.net_syntax.specs.declared.tree.Test.TheVariants.{Zero, NotZero, Negative, Positive, NotPositive, NotNegative}
-use Rattle.net_syntax.specs.Tree.{Name, Statement, Get, GetAdd, GetSub, Put, PutNumber, Move, Set, Add, Sub, Neg, Double, Copy, Swap, If, While, Count, Block, Empty, Then, Net, NetRefusal, BadLine, TooDeep, StrayEnd, Unclosed}
+use Rattle.net_syntax.specs.Tree.{Name, Get, GetAdd, GetSub, Put, PutNumber, Move, Set, Add, Sub, Neg, Double, Copy, Swap, If, While, Count, Block, Empty, Then, Net, BadLine, TooDeep, StrayEnd, Unclosed}
 use Rattle.net_syntax.specs.Forms.{followed_by, number_of, value_of, tiles_of, next_word, at_end, tiles_to_end, path_of, via_of, at_of, port_of, channel_of, process_of, name_and_var, put_of, two_names, var_and_number, one_var, two_vars, test_against_zero, version_of, row_of, statement_of, keyword_of, said, form_of, lines_of, lines_up_to, Version, Malformed}
 use Rattle.net_syntax.specs.Words.{non_blank_lines}
 use Rattle.net_syntax.specs.Reading.{and_then, after_lines, net_of}

@@ -3,13 +3,13 @@ use Rattle.std.proofs.Common.{◌≡◌, ℕ, zero, suc, ◌+◌, ◌≤◌, ◌
 use Rattle.std.specs.Prelude.{Option, Some, None, Result, Ok, Err, nat_lt}
 use Rattle.std.proofs.lemmas.Bool.Decides.{nat_tests}
 use Rattle.tis_base.specs.Tiles.{Tiles}
-use Rattle.net_syntax.specs.Tree.{Name, Statement, Get, GetAdd, GetSub, Put, PutNumber, Move, Set, Add, Sub, Neg, Double, Copy, Swap, If, While, Count, Block, Empty, Then, joined, with_last, PortLine, ChannelLine, ProcessText, Net, NetRefusal, TooDeep, StrayEnd, BadLine}
+use Rattle.net_syntax.specs.Tree.{Name, Statement, Get, GetAdd, GetSub, Put, PutNumber, Move, Set, Add, Sub, Neg, Double, Copy, Swap, If, While, Count, Block, Empty, Then, joined, with_last, PortLine, ChannelLine, ProcessText, Net, NetRefusal, TooDeep}
 use Rattle.net_syntax.specs.declared.tree.Var.{Var}
 use Rattle.net_syntax.specs.declared.tree.Test.{Test}
 use Rattle.net_syntax.specs.Forms as forms
 use Rattle.net_syntax.specs.Forms.{LineForm, Line, lines_of}
 use Rattle.net_syntax.specs.Grammar.{line, IsBlock, IsStatement, Declaration, DeclaresInput, DeclaresOutput, DeclaresChannel, DeclaresProcess, IsDeclaration, AreDeclarations, IsNet, next_number, bare_net, with_declaration, with_declarations}
-use Rattle.net_syntax.specs.Reading.{BlockRole, FirstOf, SecondOf, WhileOf, CountOf, OpenStatement, OpenProcess, Configuration, after_line, after_lines, and_then, still_open, with_open_block, net_at_end, after_all, after_version, tiles_of_line, head_of_line, net_with, net_of}
+use Rattle.net_syntax.specs.Reading.{BlockRole, FirstOf, SecondOf, WhileOf, CountOf, OpenProcess, Configuration, after_line, after_lines, and_then, still_open, with_open_block, net_at_end, after_all, after_version, tiles_of_line, head_of_line, net_with, net_of}
 use Rattle.net_syntax.specs.Laws.{IsPlain, IsPlainForm, ArePlain}
 use Rattle.net_syntax.proofs.Derived.{during, between, holding, inside, joined-empty, joined-last}
 
@@ -52,6 +52,7 @@ apart net final opened e = elsewhere (ap open_of e)
     open_of : Result Configuration NetRefusal → Bool
     open_of (Ok sofar) = elim sofar.open_process [ None ↦ false | Some p ↦ true ]
     open_of (Err refusal) = false
+
     elsewhere : true ≡ false → ⊥
     elsewhere is = absurd cc
 
@@ -61,6 +62,7 @@ failed final refusal e = elsewhere (ap is_read e)
     is_read : Result Configuration NetRefusal → Bool
     is_read (Ok sofar) = true
     is_read (Err refusal) = false
+
     elsewhere : false ≡ true → ⊥
     elsewhere is = absurd cc
 
@@ -149,11 +151,11 @@ while_line fuel net final again opened depth number var test rest few fits plain
     let s = again one e.deeper rest few (omega (arith, fits, depth_is)) plain e.goes in
     elim s.closes [
       | inl end ↦
-        let statement : Statement Name = While var test s.body in
-        let last = holding opened (with_last opened.block number statement) in
-        subst (Split net final opened depth) (sym (loop_lines number s.number (forms.OpensWhile var test) s.form rest s.inner s.behind s.split end))
-        (with_front net final opened depth number statement (line number (forms.OpensWhile var test) ∷ (s.inner ++ line s.number forms.End ∷ [])) s.behind (e.deeper, s.inner, s.number, e.is, refl, s.block)
-        (again last depth s.behind (fewer net final one e.deeper fuel rest s few) fits s.plain (closing net final one e.deeper rest s forms.End end)))
+          let statement : Statement Name = While var test s.body in
+          let last = holding opened (with_last opened.block number statement) in
+          subst (Split net final opened depth) (sym (loop_lines number s.number (forms.OpensWhile var test) s.form rest s.inner s.behind s.split end))
+          (with_front net final opened depth number statement (line number (forms.OpensWhile var test) ∷ (s.inner ++ line s.number forms.End ∷ [])) s.behind (e.deeper, s.inner, s.number, e.is, refl, s.block)
+          (again last depth s.behind (fewer net final one e.deeper fuel rest s few) fits s.plain (closing net final one e.deeper rest s forms.End end)))
       | inr other ↦ absurd (failed final _ (closing net final one e.deeper rest s forms.Else other))
     ]
 
@@ -167,11 +169,11 @@ count_line fuel net final again opened depth number var rest few fits plain ok =
     let s = again one e.deeper rest few (omega (arith, fits, depth_is)) plain e.goes in
     elim s.closes [
       | inl end ↦
-        let statement : Statement Name = Count var s.body in
-        let last = holding opened (with_last opened.block number statement) in
-        subst (Split net final opened depth) (sym (loop_lines number s.number (forms.OpensCount var) s.form rest s.inner s.behind s.split end))
-        (with_front net final opened depth number statement (line number (forms.OpensCount var) ∷ (s.inner ++ line s.number forms.End ∷ [])) s.behind (e.deeper, s.inner, s.number, e.is, refl, s.block)
-        (again last depth s.behind (fewer net final one e.deeper fuel rest s few) fits s.plain (closing net final one e.deeper rest s forms.End end)))
+          let statement : Statement Name = Count var s.body in
+          let last = holding opened (with_last opened.block number statement) in
+          subst (Split net final opened depth) (sym (loop_lines number s.number (forms.OpensCount var) s.form rest s.inner s.behind s.split end))
+          (with_front net final opened depth number statement (line number (forms.OpensCount var) ∷ (s.inner ++ line s.number forms.End ∷ [])) s.behind (e.deeper, s.inner, s.number, e.is, refl, s.block)
+          (again last depth s.behind (fewer net final one e.deeper fuel rest s few) fits s.plain (closing net final one e.deeper rest s forms.End end)))
       | inr other ↦ absurd (failed final _ (closing net final one e.deeper rest s forms.Else other))
     ]
 
@@ -193,23 +195,23 @@ if_line fuel net final again opened depth number var test rest few fits plain ok
     let few_behind = fewer net final one e.deeper fuel rest s few in
     elim s.closes [
       | inl end ↦
-        let statement : Statement Name = If var test s.body Empty in
-        let last = holding opened (with_last opened.block number statement) in
-        subst (Split net final opened depth) (sym (loop_lines number s.number (forms.OpensIf var test) s.form rest s.inner s.behind s.split end))
-        (with_front net final opened depth number statement (line number (forms.OpensIf var test) ∷ (s.inner ++ line s.number forms.End ∷ [])) s.behind (e.deeper, s.inner, [], s.number, e.is, refl, s.block, inl (refl, refl))
-        (again last depth s.behind few_behind fits s.plain (closing net final one e.deeper rest s forms.End end)))
+          let statement : Statement Name = If var test s.body Empty in
+          let last = holding opened (with_last opened.block number statement) in
+          subst (Split net final opened depth) (sym (loop_lines number s.number (forms.OpensIf var test) s.form rest s.inner s.behind s.split end))
+          (with_front net final opened depth number statement (line number (forms.OpensIf var test) ∷ (s.inner ++ line s.number forms.End ∷ [])) s.behind (e.deeper, s.inner, [], s.number, e.is, refl, s.block, inl (refl, refl))
+          (again last depth s.behind few_behind fits s.plain (closing net final one e.deeper rest s forms.End end)))
       | inr other ↦
-        let two = inside opened number (SecondOf var test s.body) in
-        let t = again two e.deeper s.behind few_behind (omega (arith, fits, depth_is)) s.plain (closing net final one e.deeper rest s forms.Else other) in
-        elim t.closes [
-          | inl end ↦
-            let statement : Statement Name = If var test s.body t.body in
-            let last = holding opened (with_last opened.block number statement) in
-            subst (Split net final opened depth) (sym (if_lines number s.number t.number (forms.OpensIf var test) s.form t.form rest s.inner s.behind t.inner t.behind s.split other t.split end))
-            (with_front net final opened depth number statement (line number (forms.OpensIf var test) ∷ (s.inner ++ ((line s.number forms.Else ∷ t.inner) ++ line t.number forms.End ∷ []))) t.behind (e.deeper, s.inner, line s.number forms.Else ∷ t.inner, t.number, e.is, refl, s.block, inr (s.number, t.inner, refl, t.block))
-            (again last depth t.behind (fewer net final two e.deeper fuel s.behind t few_behind) fits t.plain (closing net final two e.deeper s.behind t forms.End end)))
-          | inr more ↦ absurd (failed final _ (closing net final two e.deeper s.behind t forms.Else more))
-        ]
+          let two = inside opened number (SecondOf var test s.body) in
+          let t = again two e.deeper s.behind few_behind (omega (arith, fits, depth_is)) s.plain (closing net final one e.deeper rest s forms.Else other) in
+          elim t.closes [
+            | inl end ↦
+                let statement : Statement Name = If var test s.body t.body in
+                let last = holding opened (with_last opened.block number statement) in
+                subst (Split net final opened depth) (sym (if_lines number s.number t.number (forms.OpensIf var test) s.form t.form rest s.inner s.behind t.inner t.behind s.split other t.split end))
+                (with_front net final opened depth number statement (line number (forms.OpensIf var test) ∷ (s.inner ++ ((line s.number forms.Else ∷ t.inner) ++ line t.number forms.End ∷ []))) t.behind (e.deeper, s.inner, line s.number forms.Else ∷ t.inner, t.number, e.is, refl, s.block, inr (s.number, t.inner, refl, t.block))
+                (again last depth t.behind (fewer net final two e.deeper fuel s.behind t few_behind) fits t.plain (closing net final two e.deeper s.behind t forms.End end)))
+            | inr more ↦ absurd (failed final _ (closing net final two e.deeper s.behind t forms.Else more))
+          ]
     ]
 
 by_form : (fuel : ℕ) (net final : Net) → Again fuel net final → (opened : OpenProcess) (depth number : ℕ) (form : LineForm) (rest : List Line) → length rest ≤ fuel → length opened.around + depth ≡ 16 → IsPlainForm form → ArePlain rest → after_lines (during net opened) (line number form ∷ rest) ≡ Ok (between final) → Split net final opened depth (line number form ∷ rest)
@@ -258,10 +260,10 @@ process_line fuel net final again name at number rest few plain ok =
     let s = split_of fuel net final opened 16 rest few (omega arith) plain ok in
     elim s.closes [
       | inl end ↦
-        let process : ProcessText = record { name = name; at = at; body = s.body; line = number } in
-        subst (Declared net final) (sym (loop_lines number s.number (forms.Process name at) s.form rest s.inner s.behind s.split end))
-        (one_more net final (DeclaresProcess process) (line number (forms.Process name at) ∷ (s.inner ++ line s.number forms.End ∷ [])) s.behind (s.inner, s.number, refl, s.block)
-        (again (with_declaration net (DeclaresProcess process)) s.behind (fewer net final opened 16 fuel rest s few) s.plain (closing net final opened 16 rest s forms.End end)))
+          let process : ProcessText = record { name = name; at = at; body = s.body; line = number } in
+          subst (Declared net final) (sym (loop_lines number s.number (forms.Process name at) s.form rest s.inner s.behind s.split end))
+          (one_more net final (DeclaresProcess process) (line number (forms.Process name at) ∷ (s.inner ++ line s.number forms.End ∷ [])) s.behind (s.inner, s.number, refl, s.block)
+          (again (with_declaration net (DeclaresProcess process)) s.behind (fewer net final opened 16 fuel rest s few) s.plain (closing net final opened 16 rest s forms.End end)))
       | inr other ↦ absurd (failed final _ (closing net final opened 16 rest s forms.Else other))
     ]
 

@@ -11,5 +11,4 @@ pub fn networks_are_read()
 /// statement with blocks at once.
 pub fn read_networks_are_derived()
     ensures { ReadNetworksAreDerived }
-{
-}
+{}
