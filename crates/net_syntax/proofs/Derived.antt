@@ -1,37 +1,36 @@
 -- What the grammar derives is read: line after line the reader comes to the network that the lines are.
-use Rattle.std.proofs.Common.{◌≡◌, ℕ, zero, suc, ◌+◌, ◌≤◌, ◌<◌, ◌⊎◌, inl, inr, Bool, true, false, cond, List, [], ◌∷◌, ◌++◌, length, refl, sym, ap, subst, ◌∙◌, arith, append_assoc, append-nil}
-use Rattle.std.specs.Prelude.{Option, Some, None, Result, Ok, Err, nat_lt}
+use Rattle.std.proofs.Common.{◌≡◌, ℕ, suc, ◌+◌, ◌≤◌, inl, inr, Bool, true, cond, List, [], ◌∷◌, ◌++◌, length, refl, sym, ap, subst, ◌∙◌, arith, append_assoc}
+use Rattle.std.specs.Prelude.{Some, None, Result, Ok, Err, nat_lt}
 use Rattle.std.proofs.lemmas.Bool.Decides.{nat_tests}
-use Rattle.tis_base.specs.Tiles.{Tiles}
-use Rattle.net_syntax.specs.Tree.{Name, Statement, Get, GetAdd, GetSub, Put, PutNumber, Move, Set, Add, Sub, Neg, Double, Copy, Swap, If, While, Count, Block, Empty, Then, joined, with_last, PortLine, ChannelLine, ProcessText, Net, NetRefusal, TooDeep}
+use Rattle.net_syntax.specs.Tree.{Name, Statement, Get, GetAdd, GetSub, Put, PutNumber, Move, Set, Add, Sub, Neg, Double, Copy, Swap, If, While, Count, Block, Empty, Then, joined, with_last, ProcessText, Net, NetRefusal, TooDeep}
 use Rattle.net_syntax.specs.Forms as forms
 use Rattle.net_syntax.specs.Forms.{LineForm, Line, lines_of}
 use Rattle.net_syntax.specs.Grammar.{line, IsBlock, IsStatement, Declaration, DeclaresInput, DeclaresOutput, DeclaresChannel, DeclaresProcess, IsDeclaration, AreDeclarations, IsNet, bare_net, with_declaration, with_declarations, next_number}
-use Rattle.net_syntax.specs.Reading.{BlockRole, FirstOf, SecondOf, WhileOf, CountOf, OpenStatement, OpenProcess, Configuration, after_line, after_lines, and_then, still_open, with_open_block, answer_of, net_of, net_at_end}
+use Rattle.net_syntax.specs.Reading.{BlockRole, FirstOf, SecondOf, WhileOf, CountOf, OpenProcess, Configuration, after_line, after_lines, and_then, still_open, with_open_block, answer_of, net_of, net_at_end}
 use Rattle.net_syntax.proofs.Limits.{goes_on, nothing_more}
 
 -- ---- blocks behind each other
 
-joined-empty : (block : Block Name) → joined block Empty ≡ block
+pub joined-empty : (block : Block Name) → joined block Empty ≡ block
 joined-empty Empty = refl
 joined-empty (Then number statement rest) = ap (λ (b : Block Name). Then number statement b) (joined-empty rest)
 
-joined-last : (block rest : Block Name) (number : ℕ) (statement : Statement Name) → joined (with_last block number statement) rest ≡ joined block (Then number statement rest)
+pub joined-last : (block rest : Block Name) (number : ℕ) (statement : Statement Name) → joined (with_last block number statement) rest ≡ joined block (Then number statement rest)
 joined-last Empty rest number statement = refl
 joined-last (Then n s block) rest number statement = ap (λ (b : Block Name). Then n s b) (joined-last block rest number statement)
 
 -- ---- one statement after the other
 
 -- a process that is open in this network
-abbrev during : Net → OpenProcess → Configuration
+abbrev pub during : Net → OpenProcess → Configuration
 during net opened = record { net = net; open_process = Some opened }
 
 -- the process with these statements in its innermost open block
-abbrev holding : OpenProcess → Block Name → OpenProcess
+abbrev pub holding : OpenProcess → Block Name → OpenProcess
 holding opened block = record opened { block = block }
 
 -- the process with one more open block
-abbrev inside : OpenProcess → ℕ → BlockRole → OpenProcess
+abbrev pub inside : OpenProcess → ℕ → BlockRole → OpenProcess
 inside opened number role = record opened { block = Empty; around = record { line = number; role = role; before = opened.block } ∷ opened.around }
 
 opened_is : (opened : OpenProcess) (number : ℕ) (role : BlockRole) (deeper : ℕ) → length opened.around + suc deeper ≤ 16 → with_open_block opened number role ≡ Ok (inside opened number role)
@@ -123,11 +122,11 @@ mutual
 -- ---- declarations and networks
 
 -- no process is open in this network
-abbrev between : Net → Configuration
+abbrev pub between : Net → Configuration
 between net = record { net = net; open_process = None }
 
 -- a process as it is opened
-abbrev begun : ProcessText → OpenProcess
+abbrev pub begun : ProcessText → OpenProcess
 begun process = record { name = process.name; at = process.at; line = process.line; block = Empty; around = [] }
 
 declaration_is : (declaration : Declaration) (lines : List Line) → IsDeclaration 16 declaration lines → (net : Net) (rest : List Line) → after_lines (between net) (lines ++ rest) ≡ after_lines (between (with_declaration net declaration)) rest

@@ -1,12 +1,12 @@
 -- The definitions, computed on small texts.
 use Rattle.std.proofs.Common.{◌≡◌, ℕ, List, [], ◌∷◌, ◌++◌, Some, None, refl}
-use Rattle.std.specs.Prelude.{Result, Ok, Err, codes, pos, negsuc}
+use Rattle.std.specs.Prelude.{Ok, Err, codes, pos, negsuc}
 use Rattle.std.specs.Fmt.{digits}
-use Rattle.tis_base.specs.declared.tiles.TileKind.TheVariants.{Compute}
+use Rattle.tis_base.specs.declared.tiles.TileKind.TheVariants.{Compute, Memory, Damaged}
 use Rattle.tis_base.specs.Tiles.{Tiles}
 use Rattle.net_syntax.specs.declared.tree.Var.TheVariants.{X, Y}
-use Rattle.net_syntax.specs.declared.tree.Test.TheVariants.{Zero, NotZero}
-use Rattle.net_syntax.specs.Tree.{Name, Statement, Get, Put, PutNumber, Move, If, While, Count, Block, Empty, Then, Net, NetRefusal, BadLine, TooDeep, StrayEnd, Unclosed}
+use Rattle.net_syntax.specs.declared.tree.Test.TheVariants.{Zero, NotZero, Negative, Positive, NotPositive, NotNegative}
+use Rattle.net_syntax.specs.Tree.{Name, Get, GetAdd, GetSub, Put, PutNumber, Move, Set, Add, Sub, Neg, Double, Copy, Swap, If, While, Count, Block, Empty, Then, Net, BadLine, TooDeep, StrayEnd, Unclosed}
 use Rattle.net_syntax.specs.Forms.{followed_by, number_of, value_of, tiles_of, next_word, at_end, tiles_to_end, path_of, via_of, at_of, port_of, channel_of, process_of, name_and_var, put_of, two_names, var_and_number, one_var, two_vars, test_against_zero, version_of, row_of, statement_of, keyword_of, said, form_of, lines_of, lines_up_to, Version, Malformed}
 use Rattle.net_syntax.specs.Words.{non_blank_lines}
 use Rattle.net_syntax.specs.Reading.{and_then, after_lines, net_of}
@@ -101,6 +101,21 @@ wrong_lines :
 unfolding followed_by number_of value_of tiles_of next_word at_end tiles_to_end path_of via_of at_of port_of channel_of process_of name_and_var put_of two_names var_and_number one_var two_vars test_against_zero version_of row_of statement_of keyword_of said form_of lines_up_to lines_of and_then after_lines net_of
 wrong_lines = (refl, refl, refl, refl, refl, refl, refl, refl, refl)
 
+-- each statement that no row above has, and each comparison
+statements :
+    (net_of (head ++ codes "getadd a x\ngetsub a y\nput o x\nset x 999\nadd y -999\nsub x 0\nneg y\ndouble x\ncopy x y\nswap\nend\n") ≡ Ok (column (Then 6 (GetAdd (codes "a") X) (Then 7 (GetSub (codes "a") Y) (Then 8 (Put (codes "o") X) (Then 9 (Set X (pos 999)) (Then 10 (Add Y (negsuc 998)) (Then 11 (Sub X (pos 0)) (Then 12 (Neg Y) (Then 13 (Double X) (Then 14 (Copy X Y) (Then 15 (Swap) Empty))))))))))))
+    × (net_of (head ++ codes "if x = 0\nend\nif x != 0\nend\nif x < 0\nend\nif x > 0\nend\nif x <= 0\nend\nif x >= 0\nend\nend\n") ≡ Ok (column (Then 6 (If X Zero Empty Empty) (Then 8 (If X NotZero Empty Empty) (Then 10 (If X Negative Empty Empty) (Then 12 (If X Positive Empty Empty) (Then 14 (If X NotPositive Empty Empty) (Then 16 (If X NotNegative Empty Empty) Empty))))))))
+unfolding followed_by number_of value_of tiles_of next_word at_end tiles_to_end path_of via_of at_of port_of channel_of process_of name_and_var put_of two_names var_and_number one_var two_vars test_against_zero version_of row_of statement_of keyword_of said form_of lines_up_to lines_of and_then after_lines net_of
+statements = (refl, refl)
+
+-- declarations in any order, free and pinned, and the bounds of a path
+declarations :
+    (net_of (codes "net 1\ntiles CMDC CCCC CCCC\nchannel at via 0 99\nprocess x\nend\nchannel via\noutput abcdefghijklmnop at 3\n") ≡ Ok (record { version = 1; tiles = record { shape = record { columns = 4; rows = 3 }; kinds = Compute ∷ Memory ∷ Damaged ∷ Compute ∷ Compute ∷ Compute ∷ Compute ∷ Compute ∷ Compute ∷ Compute ∷ Compute ∷ Compute ∷ [] }; inputs = []; outputs = record { name = codes "abcdefghijklmnop"; position = 3; via = None; line = 7 } ∷ []; channels = record { name = codes "at"; via = Some (0 ∷ 99 ∷ []); line = 3 } ∷ record { name = codes "via"; via = None; line = 6 } ∷ []; processes = record { name = codes "x"; at = None; body = Empty; line = 4 } ∷ [] }))
+    × (net_of (codes "net 1\ntiles CCCC CCCC CCCC\nchannel c via 1 1 1 1 1 1 1 1 1 1 1 1 1 1 1 1 1 1 1 1 1 1 1 1 1 1 1 1 1 1 1 1 1 1 1 1 1 1 1 1 1 1 1 1 1 1 1 1 1\n") ≡ Err (BadLine 3))
+    × (net_of (codes "net 1\ntiles CCCC CCCC CCCC\nchannel c via 1 1 1 1 1 1 1 1 1 1 1 1 1 1 1 1 1 1 1 1 1 1 1 1 1 1 1 1 1 1 1 1 1 1 1 1 1 1 1 1 1 1 1 1 1 1 1 1\nfoo\n") ≡ Err (BadLine 4))
+unfolding followed_by number_of value_of tiles_of next_word at_end tiles_to_end path_of via_of at_of port_of channel_of process_of name_and_var put_of two_names var_and_number one_var two_vars test_against_zero version_of row_of statement_of keyword_of said form_of lines_up_to lines_of and_then after_lines net_of
+declarations = (refl, refl, refl)
+
 -- past the last line that may say something every line is wrong
 past : lines_up_to 1 (non_blank_lines (codes "\nnet 1\n#\nend\n")) ≡ record { number = 2; form = Version } ∷ record { number = 4; form = Malformed } ∷ []
 unfolding followed_by next_word at_end version_of keyword_of said form_of lines_up_to
@@ -110,3 +125,8 @@ past = refl
 written : net_text (column (Then 6 (Move (codes "a") (codes "o")) Empty)) ≡ head ++ codes "move a o\nend\n"
 unfolding digits
 written = refl
+
+-- a canonical text with blocks: `else` stands only where its block has statements
+written_blocks : net_text (column (Then 6 (If Y Negative (Then 7 (Neg Y) Empty) (Then 9 (PutNumber (codes "o") (negsuc 4)) Empty)) (Then 11 (If X Zero Empty Empty) (Then 14 (Count X Empty) Empty)))) ≡ head ++ codes "if y < 0\nneg y\nelse\nput o -5\nend\nif x = 0\nend\ncount x\nend\nend\n"
+unfolding digits
+written_blocks = refl

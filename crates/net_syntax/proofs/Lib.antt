@@ -6,3 +6,4 @@ mod Paths
 mod Reversed
 mod Limits
 mod Derived
+mod Sound

@@ -4,7 +4,7 @@ use Rattle.std.specs.Prelude.{Result, Ok, Err}
 use Rattle.tis_base.specs.Lines.{text_lines}
 use Rattle.net_syntax.specs.declared.form.LineForm as held
 use Rattle.net_syntax.specs.Words.{Words, NonBlank, non_blank_from}
-use Rattle.net_syntax.specs.Forms.{LineForm, Malformed, Line, form_of, lines_up_to}
+use Rattle.net_syntax.specs.Forms.{LineForm, Line, form_of, lines_up_to}
 use Rattle.net_syntax.specs.FormView.{form_view}
 use Rattle.net_syntax.specs.declared.error.NetError.{NetError}
 use Rattle.net_syntax.specs.declared.error.NetError.TheVariants as errors

@@ -1,8 +1,8 @@
 -- Numbers as words, read from left to right.
-use Rattle.std.proofs.Common.{◌≡◌, ℕ, zero, suc, ◌+◌, ◌*◌, ◌<◌, ◌≤◌, Bool, true, false, cond, List, [], ◌∷◌, length, drop, get_or, refl, sym, ap, ◌∙◌, arith, lit<}
-use Rattle.std.specs.Prelude.{Option, Some, None, option_and_then, nat_le, ◌==◌}
+use Rattle.std.proofs.Common.{◌≡◌, ℕ, suc, ◌+◌, ◌*◌, ◌<◌, true, false, List, [], ◌∷◌, length, refl, arith}
+use Rattle.std.specs.Prelude.{Option, Some, None, option_and_then, ◌==◌}
 use Rattle.std.proofs.lemmas.Bool.Decides.{nat_tests}
-use Rattle.net_syntax.specs.Forms.{digit, spelled_behind, spelled, at_most, number_of}
+use Rattle.net_syntax.specs.Forms.{digit, spelled_behind, at_most, number_of}
 
 -- no further digit makes a number smaller
 pub too_large : (most number : ℕ) (bytes : List ℕ) → most < number → option_and_then (at_most most) (spelled_behind number bytes) ≡ None

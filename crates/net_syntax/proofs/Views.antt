@@ -1,6 +1,6 @@
 -- The tree of a network as it is held, and as it is seen.
-use Rattle.std.proofs.Common.{◌≡◌, ℕ, zero, suc, ◌<◌, List, [], ◌∷◌, ◌++◌, map, length, get_or, refl, sym, ap, ◌∙◌, arith, Some, None}
-use Rattle.std.specs.Prelude.{slice_get, option_map}
+use Rattle.std.proofs.Common.{◌≡◌, ℕ, zero, suc, ◌<◌, List, [], ◌∷◌, ◌++◌, map, length, get_or, refl, sym, ap, ◌∙◌, arith, Some}
+use Rattle.std.specs.Prelude.{slice_get}
 use Rattle.std.proofs.lemmas.List.{map-append, length-map}
 use Rattle.net_syntax.specs.declared.tree.Statement as held
 use Rattle.net_syntax.specs.declared.tree.Statement.TheFolds as folds
@@ -8,7 +8,7 @@ use Rattle.net_syntax.specs.declared.tree.Statement.TheOpen as level
 use Rattle.net_syntax.specs.declared.tree.Statement.TheViews.{roll-Block, roll-Numbered}
 use Rattle.net_syntax.specs.declared.tree.Block as held_block
 use Rattle.net_syntax.specs.declared.tree.Numbered as held_numbered
-use Rattle.net_syntax.specs.Tree.{Name, Statement, Block, Empty, Then, joined, with_last, statements_of}
+use Rattle.net_syntax.specs.Tree.{Name, Statement, Block, Then, with_last, statements_of}
 use Rattle.net_syntax.specs.View.{Numbered, block_with, statement_level, block_level, numbered_level, statement_view, block_view}
 
 -- a statement with its line as it is held

@@ -1,5 +1,5 @@
 -- The grammar of networks over the lines of a text that aren't blank: which lines are a block, which are a network, and what the first line is with which no network goes on.
-use Rattle.std.specs.Prelude.{◌≡◌, ℕ, ◌+◌, ◌≤◌, suc, ◌⊎◌, List, [], ◌∷◌, ◌++◌, length, Option, Result, Ok, Err}
+use Rattle.std.specs.Prelude.{◌≡◌, ℕ, ◌+◌, ◌≤◌, suc, ◌⊎◌, List, [], ◌∷◌, ◌++◌, length, Result, Ok, Err}
 use Rattle.tis_base.specs.Lines.{text_lines}
 use Rattle.tis_base.specs.Tiles.{Tiles}
 use Rattle.net_syntax.specs.Tree.{Name, Statement, If, While, Count, Block, Empty, Then, PortLine, ChannelLine, ProcessText, Net, NetRefusal, BadLine, TooDeep, StrayEnd, Unclosed}

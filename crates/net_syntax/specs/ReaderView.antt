@@ -1,5 +1,5 @@
 -- What contracts see of a reader.
-use Rattle.std.specs.Prelude.{◌≡◌, ℕ, List, [], map, reverse, option_map, Result, Ok, Err}
+use Rattle.std.specs.Prelude.{◌≡◌, List, map, reverse, option_map, Result, Ok, Err}
 use Rattle.net_syntax.specs.declared.error.NetError.{NetError}
 use Rattle.net_syntax.specs.declared.error.NetError.TheVariants as errors
 use Rattle.net_syntax.specs.declared.reader.BlockRole as held_role

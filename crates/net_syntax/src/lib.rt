@@ -38,7 +38,7 @@ mod unread;
 mod words;
 
 pub use error::NetError;
-pub use laws::networks_are_read;
+pub use laws::{networks_are_read, read_networks_are_derived};
 pub use name::Name;
 pub use path::Path;
 pub use read::read_net;

@@ -1,5 +1,4 @@
-use Rattle.std.proofs.Common.{◌≡◌, ◌≤◌, ◌<◌, ◌++◌, ◌∷◌, [], List, ℕ, ◌∙◌, sym, ap, length, length-append, arith, Some, None}
-use Rattle.net_syntax.specs.Reads.{Found}
+use Rattle.std.proofs.Common.{◌≡◌, ◌∷◌, [], List, ℕ, ◌∙◌, sym, ap, length, length-append, arith, None}
 use Rattle.net_syntax.specs.Forms.{path_of}
 use Rattle.net_syntax.proofs.Paths.{path_begins, path_stops, path_more, path_full, path_ends, path_behind, room_gone, room_left}
 use Rattle.net_syntax.proofs.form.path_of.Goals as goal

@@ -1,5 +1,5 @@
 use Rattle.std.proofs.Common.{◌≡◌, ℕ, suc, List, ◌∷◌, ◌+◌, ◌*◌, sym, ◌∙◌, drop, ap, drop-cons, get_or, zero-le}
-use Rattle.std.specs.Prelude.{Option, Some, None, option_and_then}
+use Rattle.std.specs.Prelude.{Option, Some, option_and_then}
 use Rattle.net_syntax.specs.Forms.{at_most, spelled_behind, digit}
 use Rattle.net_syntax.proofs.Numerals.{too_large, spelled_by, unspelled}
 use Rattle.net_syntax.proofs.numeral.number_of.Goals as goal

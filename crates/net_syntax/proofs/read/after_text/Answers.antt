@@ -1,8 +1,8 @@
-use Rattle.std.proofs.Common.{◌≡◌, ◌≤◌, ◌+◌, ◌∙◌, sym, ap, subst, length, arith, Result}
+use Rattle.std.proofs.Common.{◌∙◌, sym, subst, arith, Result}
 use Rattle.std.proofs.lemmas.Result.{err_from_is_err_and}
 use Rattle.net_syntax.specs.Tree.{NetRefusal}
 use Rattle.net_syntax.specs.Reading.{Configuration, after_lines}
-use Rattle.net_syntax.specs.ReaderView.{Answers, IsError, configuration_view}
+use Rattle.net_syntax.specs.ReaderView.{IsError, configuration_view}
 use Rattle.net_syntax.proofs.Limits.{line_passed, line_refused, all_passed}
 use Rattle.net_syntax.proofs.read.after_text.Goals as goal
 

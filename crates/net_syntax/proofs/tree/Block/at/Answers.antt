@@ -1,4 +1,4 @@
-use Rattle.std.proofs.Common.{◌<◌, ℕ, ◌∙◌, ap, length, arith, Option}
+use Rattle.std.proofs.Common.{◌<◌, ℕ, ap, length, arith, Option}
 use Rattle.std.specs.Prelude.{option_map}
 use Rattle.net_syntax.specs.Tree.{Name, Statement}
 use Rattle.net_syntax.proofs.Views.{block_at, block_within}
