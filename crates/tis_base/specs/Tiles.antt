@@ -22,7 +22,7 @@ pub record AreTiles (shape : Shape) (kinds : List TileKind) : Type 0 where
 
 -- the tile with this number is there
 abbrev pub IsOnGrid : Tiles → ℕ → Type 0
-IsOnGrid board tile = tile < length board.kinds
+IsOnGrid tiles tile = tile < length tiles.kinds
 
 abbrev pub is_compute : TileKind → Bool
 is_compute Compute = true
@@ -36,11 +36,11 @@ is_memory Damaged = false
 
 -- the tile with this number is there and is a compute tile
 abbrev pub IsCompute : Tiles → ℕ → Type 0
-IsCompute board tile = slice_get board.kinds tile ≡ Some Compute
+IsCompute tiles tile = slice_get tiles.kinds tile ≡ Some Compute
 
 -- how many compute tiles stand before this one: the number of its block in a save
 abbrev pub block_of : Tiles → ℕ → ℕ
-block_of board tile = count_by is_compute (take tile board.kinds)
+block_of tiles tile = count_by is_compute (take tile tiles.kinds)
 
 -- the direction from the other side
 abbrev pub opposite : Dir → Dir

@@ -76,7 +76,7 @@ impl Tiles {
     /// The number of columns and of rows.
     pub fn shape(&self) -> Shape
         ensures shape { result ≡ self.now.shape }
-        ensures board { AreTiles self.now.shape self.now.kinds }
+        ensures tiles { AreTiles self.now.shape self.now.kinds }
     {
         self.shape
     }

@@ -95,7 +95,7 @@ stand_on_grid tile read (written ∷ names) (process ∷ processes) stand lt =
 stand_on_grid tile read [] (process ∷ processes) stand lt = absurd stand
 stand_on_grid tile read (written ∷ names) [] stand lt = All-nil _
 
--- the processes of a network of the form stand on the board
+-- the processes of a network of the form stand on the grid
 pub processes_on_grid : (net : Net) (processes : List held_process.ProcessText) → IsTaken net → net.processes ≡ map process_view processes → All (λ process. IfSome process.at (λ at. at < 12)) processes
 processes_on_grid net processes taken same =
     let column = taken.column in

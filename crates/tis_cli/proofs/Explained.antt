@@ -6,14 +6,15 @@ use Rattle.tis_cli.specs.declared.status.Refusal.TheVariants.{NotThisForm}
 use Rattle.tis_cli.specs.declared.net_syntax.tree.NetError.{NetError}
 use Rattle.tis_cli.specs.declared.net_syntax.tree.NetError.TheVariants as unread
 use Rattle.tis_cli.specs.Statuses.{net_status, store_status}
-use Rattle.tis_cli.specs.Answers.{Finished}
+use Rattle.tis_cli.specs.Answers.{Refuses, Makes, AllDone}
 use Rattle.tis_cli.specs.Commands.{Compile, IsCompiled}
 use Rattle.tis_cli.specs.Net.{Net}
 use Rattle.tis_cli.specs.Column.{column_net, NetOf}
 use Rattle.tis_cli.specs.Compiled.{compiled}
 use Rattle.tis_save.specs.Writing.{save_text}
 use Rattle.tis_save.specs.Reading.{save_of}
-use Rattle.tis_cli.specs.Outcomes.{texts_under, with_first, Outside, IsRefused, IsDone, Explains}
+use Rattle.tis_cli.specs.Outcomes.{texts_under, with_first, World, IsAnswered, Explains}
+use Rattle.tis_cli.specs.declared.status.Status.TheVariants.{Done, Refused}
 use Rattle.tis_cli.proofs.Columns.{net_carries}
 use Rattle.tis_cli.proofs.ColumnPrograms.{column_are_programs, column_is_sound}
 use Rattle.tis_save.proofs.SavesReadBack.{saves_read_back}
@@ -55,26 +56,37 @@ module _ (told : Option Texts) (name save text seen : List ℕ) (fetched : IfSom
   stands : (texts : Texts) → told ≡ Some texts → texts_under texts (name ∷ []) ≡ Some (text ∷ [])
   stands texts is = one_stands texts name text (told_is told (λ (t : Texts). text_at t name ≡ Some text) fetched texts is)
 
-  -- a text that was fetched and is no network is refused
-  refusal_explained : ((net : Net) → NetOf seen net → ⊥) → (texts : Texts) → told ≡ Some texts → IsRefused (Compile name save) texts NotThisForm
-  refusal_explained none texts is =
-      record { found = text ∷ []; stand = stands texts is; comes = (λ net of. none net (subst (λ (t : List ℕ). NetOf t net) (sym same) of), refl) }
+  -- a text that was fetched and is no network is refused, and nothing has changed
+  refusal_explained : ((net : Net) → NetOf seen net → ⊥) → (new : Option Texts) → new ≡ told → (written : Option (List ℕ)) (texts : Texts) → told ≡ Some texts →
+      IsAnswered (Compile name save) texts written (Refused NotThisForm) (record { texts = new; written = written })
+  refusal_explained none new stayed written texts is =
+      record {
+        found = text ∷ [];
+        answer = Refuses NotThisForm;
+        stand = stands texts is;
+        comes = (λ net of. none net (subst (λ (t : List ℕ). NetOf t net) (sym same) of), refl);
+        status_is = refl;
+        arrives = (stayed ∙ is, refl);
+        promised = tt;
+      }
 
   -- a text that was fetched and isn't read as a network
-  pub unread_explained : (written : Option (List ℕ)) (after : Outside) (error : NetError) → (error ≡ unread.NotThisForm → (net : Net) → NetOf seen net → ⊥) → Explains (Compile name save) told written (net_status error) after
-  unread_explained written after unread.NotThisForm none = refusal_explained (none refl)
-  unread_explained written after unread.NoMemory none = tt
+  pub unread_explained : (new : Option Texts) → new ≡ told → (written : Option (List ℕ)) (error : NetError) → (error ≡ unread.NotThisForm → (net : Net) → NetOf seen net → ⊥) →
+      Explains (Compile name save) told written (net_status error) (record { texts = new; written = written })
+  unread_explained new stayed written unread.NotThisForm none = refusal_explained (none refl) new stayed written
+  unread_explained new stayed written unread.NoMemory none = tt
 
   -- a text that was fetched and is a network is compiled: its save was kept
   pub saved_explained : (between new : Option Texts) (bytes : List ℕ) (net : Net) → NetOf seen net → bytes ≡ save_text (compiled net) → between ≡ told → new ≡ option_map (λ texts. with_text texts save bytes) between →
-      (written : Option (List ℕ)) (texts : Texts) → told ≡ Some texts → IsDone (Compile name save) texts written (record { texts = new; written = written })
+      (written : Option (List ℕ)) (texts : Texts) → told ≡ Some texts → IsAnswered (Compile name save) texts written Done (record { texts = new; written = written })
   saved_explained between new bytes net of is_save stayed kept written texts is =
       let is_net : NetOf text net = subst (λ (t : List ℕ). NetOf t net) same of in
       record {
         found = text ∷ [];
-        bytes = bytes;
+        answer = Makes AllDone bytes;
         stand = stands texts is;
         comes = (net, is_net, refl, is_save);
+        status_is = refl;
         arrives = (kept ∙ ap (option_map (λ (t : Texts). with_text t save bytes)) (stayed ∙ is), refl);
         promised = compiled_as_promised text bytes net is_net is_save;
       }

@@ -5,7 +5,7 @@ use Rattle.tis_cli.specs.declared.net_syntax.tree.Net as held_net
 use Rattle.tis_cli.specs.declared.net_syntax.tree.NetError.{NetError}
 use Rattle.tis_cli.specs.Net.{Net}
 use Rattle.tis_cli.specs.NetText.{net_text}
-use Rattle.tis_cli.specs.Column.{Column, NetOf, column_net}
+use Rattle.tis_cli.specs.Column.{Column, NetOf, TextsHaveOneNet, column_net}
 use Rattle.tis_cli.specs.Reading.{column_at}
 use Rattle.tis_cli.specs.NetView.{net_view}
 use Rattle.tis_cli.proofs.Spelling.{column_is, column_again}
@@ -26,8 +26,18 @@ found_net (Err error) text e = tt
 never_read : (column : Column) → None ≡ Some column → ⊥
 never_read column is = cc
 
+-- the column of a text's network is what is read of it
+column_read : (text : List ℕ) (net : Net) (of : NetOf text net) → column_at text ≡ Some of.column
+column_read text net of = ap column_at (of.text_is ∙ ap net_text of.net_is) ∙ column_again of.column of.is_column
+
 -- where nothing was read, the text is no network
 pub refused_net : (text : List ℕ) → column_at text ≡ None → (net : Net) → NetOf text net → ⊥
-refused_net text none net of =
-    let read : column_at text ≡ Some of.column = ap column_at (of.text_is ∙ ap net_text of.net_is) ∙ column_again of.column of.is_column in
-    never_read of.column (sym none ∙ read)
+refused_net text none net of = never_read of.column (sym none ∙ column_read text net of)
+
+same_column : {read : Option Column} {one other : Column} → read ≡ Some one → read ≡ Some other → one ≡ other
+same_column is also = cc
+
+-- a text is that of one network at most
+pub texts_have_one_net : TextsHaveOneNet
+texts_have_one_net text one other of also =
+    of.net_is ∙ ap column_net (same_column (column_read text one of) (column_read text other also)) ∙ sym also.net_is

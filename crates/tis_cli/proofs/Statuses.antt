@@ -4,9 +4,13 @@ use Rattle.tis_base.specs.Outside.{Texts}
 use Rattle.tis_cli.specs.declared.status.Status.{Status}
 use Rattle.tis_cli.specs.declared.status.Status.TheVariants.{Done, Words, Refused, Missing, StoreFault, SinkFault, NoMemory}
 use Rattle.tis_cli.specs.declared.status.Refusal.{Refusal}
-use Rattle.tis_cli.specs.Answers.{Answer, Refuses, Makes, Finished, Destination, Kept, Put, answer_status}
-use Rattle.tis_cli.specs.Commands.{Command, Compile, command_of, fetched, destination_of, CompilesTo, ComesTo}
-use Rattle.tis_cli.specs.Outcomes.{IsCalled, PutsReport, texts_under, Outside, IsDone, IsRefused, IsUnlessFault, Explains}
+use Rattle.tis_cli.specs.Net.{Net}
+use Rattle.tis_cli.specs.Compiled.{compiled}
+use Rattle.tis_save.specs.Writing.{save_text}
+use Rattle.tis_cli.specs.Answers.{Completion, AllDone, Answer, Refuses, Makes, Destination, Kept, Put, completion_status, answer_status}
+use Rattle.tis_cli.specs.Commands.{Command, Compile, command_of, fetched, destination_of, CompilesTo, ComesTo, AnswersAreOne}
+use Rattle.tis_cli.specs.Outcomes.{IsCalled, PutsReport, PutsBytes, texts_under, World, IsOfAnswer, IsAnswered, IsCutShort, IsFailure, IsUnlessFailure, Explains}
+use Rattle.tis_cli.proofs.Found.{texts_have_one_net}
 
 same_texts : {a b : List (List ℕ)} {found : Option (List (List ℕ))} → found ≡ Some a → found ≡ Some b → a ≡ b
 same_texts is other = cc
@@ -17,29 +21,32 @@ no_texts none some = absurd cc
 same_command : {a b : Command} {read : Option Command} → read ≡ Some a → read ≡ Some b → a ≡ b
 same_command is other = cc
 
--- ---- texts come to answers of one status
+-- ---- texts come to one answer
 
-compiles_once : (texts : List (List ℕ)) (a b : Answer) → CompilesTo texts a → CompilesTo texts b → answer_status a ≡ answer_status b
-compiles_once (text ∷ []) (Refuses refusal) (Refuses other) first second = ap (λ (r : Refusal). Refused r) (first.1 ∙ sym second.1)
-compiles_once (text ∷ []) (Refuses refusal) (Makes ending bytes) first second = absurd (first.0 second.0 second.1)
-compiles_once (text ∷ []) (Makes ending bytes) (Refuses refusal) first second = absurd (second.0 first.0 first.1)
-compiles_once (text ∷ []) (Makes Finished bytes) (Makes Finished others) first second = refl
-compiles_once [] a b first second = absurd first
-compiles_once (text ∷ other ∷ texts) a b first second = absurd first
+compiles_once : (texts : List (List ℕ)) (one other : Answer) → CompilesTo texts one → CompilesTo texts other → one ≡ other
+compiles_once (text ∷ []) (Refuses refusal) (Refuses another) first second = ap (λ (r : Refusal). Refuses r) (first.1 ∙ sym second.1)
+compiles_once (text ∷ []) (Refuses refusal) (Makes completion bytes) first second = absurd (first.0 second.0 second.1)
+compiles_once (text ∷ []) (Makes completion bytes) (Refuses refusal) first second = absurd (second.0 first.0 first.1)
+compiles_once (text ∷ []) (Makes completion bytes) (Makes another others) first second =
+    let same : first.0 ≡ second.0 = texts_have_one_net text first.0 second.0 first.1 second.1 in
+    let bytes_same : bytes ≡ others = first.3 ∙ ap (λ (n : Net). save_text (compiled n)) same ∙ sym second.3 in
+    ap (λ (c : Completion). Makes c bytes) (first.2 ∙ sym second.2) ∙ ap (λ (b : List ℕ). Makes another b) bytes_same
+compiles_once [] one other first second = absurd first
+compiles_once (text ∷ more ∷ texts) one other first second = absurd first
 
-comes_once : (command : Command) (texts : List (List ℕ)) (a b : Answer) → ComesTo command texts a → ComesTo command texts b → answer_status a ≡ answer_status b
-comes_once (Compile net save) texts a b first second = compiles_once texts a b first second
+pub answers_are_one : AnswersAreOne
+answers_are_one (Compile net save) texts one other first second = compiles_once texts one other first second
 
 -- ---- the clauses
 
 -- what is explained of the command that was done is explained of the one that the words are
-pub explained_at : (words : List (List ℕ)) (told : Option Texts) (written : Option (List ℕ)) (status : Status) (after : Outside) (done command : Command) (texts : Texts) →
+pub explained_at : (words : List (List ℕ)) (told : Option Texts) (written : Option (List ℕ)) (status : Status) (after : World) (done command : Command) (texts : Texts) →
     command_of words ≡ Some done → IsCalled words told command texts → Explains done told written status after → Explains command told written status after
 explained_at words told written status after done command texts is called explains =
     subst (λ (c : Command). Explains c told written status after) (same_command is called.command_is) explains
 
 -- a command is never answered that its words are none
-pub never_words : (command : Command) (told : Option Texts) (written : Option (List ℕ)) (status : Status) (after : Outside) → Explains command told written status after → status ≡ Words → ⊥
+pub never_words : (command : Command) (told : Option Texts) (written : Option (List ℕ)) (status : Status) (after : World) → Explains command told written status after → status ≡ Words → ⊥
 never_words command told written status after explains is = subst (λ (s : Status). Explains command told written s after) is explains
 
 -- words that are a command
@@ -50,45 +57,62 @@ some_command none some = absurd cc
 pub none_puts : (words : List (List ℕ)) → PutsReport words → ⊥
 none_puts words (Compile net save, is, puts) = let never : Kept save ≡ Put = puts in absurd cc
 
--- the sink failed only where the words are a command that puts
-pub sink_fault_only : (words : List (List ℕ)) (told : Option Texts) (written : Option (List ℕ)) (status : Status) (after : Outside) (done : Command) →
-    command_of words ≡ Some done → Explains done told written status after → status ≡ SinkFault → PutsReport words
-sink_fault_only words told written status after done is explains failed = (done, is, subst (λ (s : Status). Explains done told written s after) failed explains)
+-- a command that keeps what it makes is never answered that the sink failed
+pub never_sink_fault : {P : Type 0} (command : Command) (told : Option Texts) (written : Option (List ℕ)) (status : Status) (after : World) → Explains command told written status after → status ≡ SinkFault → P
+never_sink_fault command told written status after explains failed = absurd (subst (λ (s : Status). Explains command told written s after) failed explains)
 
-module _ (command : Command) (told : Option Texts) (written : Option (List ℕ)) (status : Status) (after : Outside) (texts : Texts) (is : told ≡ Some texts) (explains : Explains command told written status after) where
-  -- what is explained of the status that was answered
-  at : (answered : Status) → status ≡ answered → Explains command told written answered after
-  at answered same = subst (λ (s : Status). Explains command told written s after) same explains
+pub missing_only : (command : Command) (told : Option Texts) (written : Option (List ℕ)) (status : Status) (after : World) (texts : Texts) → told ≡ Some texts → Explains command told written status after →
+    status ≡ Missing → texts_under texts (fetched command) ≡ None
+missing_only command told written status after texts is explains missing = subst (λ (s : Status). Explains command told written s after) missing explains texts is
 
-  pub missing_only : status ≡ Missing → texts_under texts (fetched command) ≡ None
-  missing_only missing = at Missing missing texts is
+-- which statuses are those of answers
+no_answer : (status : Status) (never : (answer : Answer) → status ≡ answer_status answer → ⊥) → IsOfAnswer status → ⊥
+no_answer status never of = never of.0 of.1
 
-  pub refused_only : (refusal : Refusal) → status ≡ Refused refusal → IsRefused command texts refusal
-  refused_only refusal refused = at (Refused refusal) refused texts is
+missing_is_none : (answer : Answer) → Missing ≡ answer_status answer → ⊥
+missing_is_none (Refuses refusal) is = cc
+missing_is_none (Makes AllDone bytes) is = cc
 
-  pub done_only : status ≡ Done → IsDone command texts written after
-  done_only done = at Done done texts is
+store_fault_is_none : (answer : Answer) → StoreFault ≡ answer_status answer → ⊥
+store_fault_is_none (Refuses refusal) is = cc
+store_fault_is_none (Makes AllDone bytes) is = cc
 
-pub missing_where : (command : Command) (told : Option Texts) (written : Option (List ℕ)) (status : Status) (after : Outside) (texts : Texts) → told ≡ Some texts → Explains command told written status after →
-    texts_under texts (fetched command) ≡ None → IsUnlessFault (destination_of command) status Missing
+no_memory_is_none : (answer : Answer) → NoMemory ≡ answer_status answer → ⊥
+no_memory_is_none (Refuses refusal) is = cc
+no_memory_is_none (Makes AllDone bytes) is = cc
+
+pub answered : (command : Command) (told : Option Texts) (written : Option (List ℕ)) (status : Status) (after : World) (texts : Texts) → told ≡ Some texts → Explains command told written status after →
+    IsOfAnswer status → IsAnswered command texts written status after
+answered command told written Done after texts is explains of = explains texts is
+answered command told written (Refused refusal) after texts is explains of = explains texts is
+answered command told written Words after texts is explains of = absurd explains
+answered command told written SinkFault after texts is explains of = absurd explains
+answered command told written Missing after texts is explains of = absurd (no_answer Missing missing_is_none of)
+answered command told written StoreFault after texts is explains of = absurd (no_answer StoreFault store_fault_is_none of)
+answered command told written NoMemory after texts is explains of = absurd (no_answer NoMemory no_memory_is_none of)
+
+pub missing_where : (command : Command) (told : Option Texts) (written : Option (List ℕ)) (status : Status) (after : World) (texts : Texts) → told ≡ Some texts → Explains command told written status after →
+    texts_under texts (fetched command) ≡ None → IsUnlessFailure ⊥ status Missing
 missing_where command told written Done after texts is explains none = no_texts none (explains texts is).stand
 missing_where command told written (Refused refusal) after texts is explains none = no_texts none (explains texts is).stand
 missing_where command told written Missing after texts is explains none = inl refl
 missing_where command told written StoreFault after texts is explains none = inr tt
-missing_where command told written SinkFault after texts is explains none = inr explains
 missing_where command told written NoMemory after texts is explains none = inr tt
+missing_where command told written SinkFault after texts is explains none = absurd explains
 missing_where command told written Words after texts is explains none = absurd explains
 
-pub complete : (command : Command) (told : Option Texts) (written : Option (List ℕ)) (status : Status) (after : Outside) (texts : Texts) (found : List (List ℕ)) (answer : Answer) → told ≡ Some texts → Explains command told written status after →
-    texts_under texts (fetched command) ≡ Some found → ComesTo command found answer → IsUnlessFault (destination_of command) status (answer_status answer)
-complete command told written Done after texts found answer is explains stand comes =
-    let done = explains texts is in
-    inl (comes_once command found (Makes Finished done.bytes) answer (subst (λ (f : List (List ℕ)). ComesTo command f (Makes Finished done.bytes)) (same_texts done.stand stand) done.comes) comes)
-complete command told written (Refused refusal) after texts found answer is explains stand comes =
-    let refused = explains texts is in
-    inl (comes_once command found (Refuses refusal) answer (subst (λ (f : List (List ℕ)). ComesTo command f (Refuses refusal)) (same_texts refused.stand stand) refused.comes) comes)
+-- the answer that was given is the one that the texts come to
+same_status : (command : Command) (texts : Texts) (written : Option (List ℕ)) (status : Status) (after : World) (found : List (List ℕ)) (answer : Answer) →
+    IsAnswered command texts written status after → texts_under texts (fetched command) ≡ Some found → ComesTo command found answer → status ≡ answer_status answer
+same_status command texts written status after found answer is stand comes =
+    is.status_is ∙ ap answer_status (answers_are_one command found is.answer answer (subst (λ (f : List (List ℕ)). ComesTo command f is.answer) (same_texts is.stand stand) is.comes) comes)
+
+pub complete : (command : Command) (told : Option Texts) (written : Option (List ℕ)) (status : Status) (after : World) (texts : Texts) (found : List (List ℕ)) (answer : Answer) → told ≡ Some texts → Explains command told written status after →
+    texts_under texts (fetched command) ≡ Some found → ComesTo command found answer → IsUnlessFailure (PutsBytes (destination_of command) answer) status (answer_status answer)
+complete command told written Done after texts found answer is explains stand comes = inl (same_status command texts written Done after found answer (explains texts is) stand comes)
+complete command told written (Refused refusal) after texts found answer is explains stand comes = inl (same_status command texts written (Refused refusal) after found answer (explains texts is) stand comes)
 complete command told written Missing after texts found answer is explains stand comes = no_texts (explains texts is) stand
 complete command told written StoreFault after texts found answer is explains stand comes = inr tt
-complete command told written SinkFault after texts found answer is explains stand comes = inr explains
 complete command told written NoMemory after texts found answer is explains stand comes = inr tt
+complete command told written SinkFault after texts found answer is explains stand comes = absurd explains
 complete command told written Words after texts found answer is explains stand comes = absurd explains

@@ -4,24 +4,25 @@ use Rattle.tis_cli.specs.declared.status.Status.{Status}
 use Rattle.tis_cli.specs.declared.status.Status.TheVariants.{Done, Refused}
 use Rattle.tis_cli.specs.declared.status.Refusal.{Refusal}
 
--- how work ends that nothing refuses; so far it is always done whole
-pub data Ending : Type 0 where
-  Finished : Ending
+-- how work comes to its end, with bytes made; so far it is always done whole
+pub data Completion : Type 0 where
+  AllDone : Completion
 
--- what a command comes to where the outside doesn't fail and memory is there: a refusal, or the end of its work and the bytes that it makes
+-- what a command comes to where the outside doesn't fail and memory is there: a refusal before anything is made, or the end of its work and the bytes that it makes
 pub data Answer : Type 0 where
   Refuses : (refusal : Refusal) → Answer
-  Makes : (ending : Ending) → (bytes : List ℕ) → Answer
+  Makes : (completion : Completion) → (bytes : List ℕ) → Answer
 
 -- where the bytes go that a command makes: they are kept under a name, or put as its report
 pub data Destination : Type 0 where
   Kept : (name : List ℕ) → Destination
   Put : Destination
 
-abbrev pub ending_status : Ending → Status
-ending_status Finished = Done
+-- the status of work that came to its end; a work that stops with a report has the status that says so, which may be a refusal
+abbrev pub completion_status : Completion → Status
+completion_status AllDone = Done
 
 -- the status of an answer
 abbrev pub answer_status : Answer → Status
 answer_status (Refuses refusal) = Refused refusal
-answer_status (Makes ending bytes) = ending_status ending
+answer_status (Makes completion bytes) = completion_status completion

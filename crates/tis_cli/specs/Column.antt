@@ -119,3 +119,7 @@ pub record NetOf (text : List ℕ) (net : Net) : Type 0 where
   pub is_column : IsColumn column
   pub net_is : net ≡ column_net column
   pub text_is : text ≡ net_text net
+
+-- a text is that of one network at most
+abbrev pub TextsHaveOneNet : Type 0
+TextsHaveOneNet = (text : List ℕ) (one other : Net) → NetOf text one → NetOf text other → one ≡ other

@@ -4,7 +4,7 @@ use Rattle.std.specs.Str.{bytes_eq}
 use Rattle.tis_cli.specs.declared.command.Command as held
 use Rattle.tis_cli.specs.declared.command.Command.TheVariants as held_as
 use Rattle.tis_cli.specs.declared.status.Refusal.TheVariants.{NotThisForm}
-use Rattle.tis_cli.specs.Answers.{Answer, Refuses, Makes, Finished, Destination, Kept, Put}
+use Rattle.tis_cli.specs.Answers.{Answer, Refuses, Makes, AllDone, Destination, Kept}
 use Rattle.tis_cli.specs.Net.{Net}
 use Rattle.tis_cli.specs.Column.{NetOf}
 use Rattle.tis_cli.specs.Compiled.{compiled}
@@ -31,7 +31,7 @@ command_view (held_as.Compile net save) = Compile net.now save.now
 -- the text of a network is compiled to the canonical save of its programs; any other text is refused as one that isn't of the form that is taken so far
 abbrev pub CompilesTo : List (List ℕ) → Answer → Type 0
 CompilesTo (text ∷ []) (Refuses refusal) = ((net : Net) → NetOf text net → ⊥) × (refusal ≡ NotThisForm)
-CompilesTo (text ∷ []) (Makes ending bytes) = (net : Net) × NetOf text net × (ending ≡ Finished) × (bytes ≡ save_text (compiled net))
+CompilesTo (text ∷ []) (Makes completion bytes) = (net : Net) × NetOf text net × (completion ≡ AllDone) × (bytes ≡ save_text (compiled net))
 -- one text is fetched
 CompilesTo [] answer = ⊥
 CompilesTo (text ∷ other ∷ texts) answer = ⊥
@@ -63,3 +63,9 @@ ComesTo (Compile net save) texts answer = CompilesTo texts answer
 -- what is promised of the bytes that it made, where all is done
 abbrev pub IsPromised : Command → List (List ℕ) → List ℕ → Type 0
 IsPromised (Compile net save) texts bytes = IsCompiled texts bytes
+
+-- ---- laws
+
+-- texts come to one answer
+abbrev pub AnswersAreOne : Type 0
+AnswersAreOne = (command : Command) (texts : List (List ℕ)) (one other : Answer) → ComesTo command texts one → ComesTo command texts other → one ≡ other

@@ -1,5 +1,7 @@
 //! Laws of networks and of the programs that they are compiled to.
 ghost use Rattle.tis_cli.specs.Behaves.{ProcessesBehave, ProcessesWait};
+ghost use Rattle.tis_cli.specs.Column.{TextsHaveOneNet};
+ghost use Rattle.tis_cli.specs.Commands.{AnswersAreOne};
 ghost use Rattle.tis_cli.specs.Kahn.{StepsWithinLimits};
 ghost use Rattle.tis_cli.specs.Process.{FuelBoundsSteps};
 
@@ -18,4 +20,10 @@ pub fn processes_wait()
 pub fn steps_are_bounded()
     ensures fuel { FuelBoundsSteps }
     ensures limits { StepsWithinLimits }
+{}
+
+/// A text is that of one network at most, and the texts of a command come to one answer.
+pub fn texts_say_one_thing()
+    ensures nets { TextsHaveOneNet }
+    ensures answers { AnswersAreOne }
 {}

@@ -8,7 +8,7 @@ mod net_syntax;
 mod run;
 mod status;
 
-pub use laws::{processes_behave, processes_wait, steps_are_bounded};
+pub use laws::{processes_behave, processes_wait, steps_are_bounded, texts_say_one_thing};
 pub use run::tool;
 pub use status::{Refusal, Status, describe};
 

@@ -55,7 +55,7 @@ fn pass_program() -> Program
 
 // Puts the program of a process on its tile.
 fn place_process(programs: &mut Programs, process: &ProcessText)
-    requires board { programs.old.tiles ≡ plain_tiles }
+    requires tiles { programs.old.tiles ≡ plain_tiles }
     requires on_grid { IfSome process.now.at (λ tile. tile < 12) }
     ensures { programs.new ≡ record programs.old { programs = put_on process.now.at (code_of (statements_view process.now.body)) programs.old.programs } }
 {
@@ -66,7 +66,7 @@ fn place_process(programs: &mut Programs, process: &ProcessText)
 
 // Puts the programs of the processes on their tiles.
 fn place_processes(programs: &mut Programs, processes: &[ProcessText])
-    requires board { programs.old.tiles ≡ plain_tiles }
+    requires tiles { programs.old.tiles ≡ plain_tiles }
     requires on_grid { All (λ process. IfSome process.at (λ tile. tile < 12)) processes.now }
     ensures { programs.new ≡ record programs.old { programs = with_processes (map process_view processes.now) programs.old.programs } }
 {
@@ -77,7 +77,7 @@ fn place_processes(programs: &mut Programs, processes: &[ProcessText])
 
 // Puts a program that passes values on each tile of the path.
 fn place_passes(programs: &mut Programs, path: &Path)
-    requires board { programs.old.tiles ≡ plain_tiles }
+    requires tiles { programs.old.tiles ≡ plain_tiles }
     requires on_grid { All (λ tile. tile < 12) path.now }
     ensures { programs.new ≡ record programs.old { programs = with_passes path.now programs.old.programs } }
 {
@@ -89,7 +89,7 @@ fn place_passes(programs: &mut Programs, path: &Path)
 
 // Puts a program that passes values on each tile that these links pass.
 fn place_links(programs: &mut Programs, ports: &[PortLine])
-    requires board { programs.old.tiles ≡ plain_tiles }
+    requires tiles { programs.old.tiles ≡ plain_tiles }
     requires on_grid { All (λ port. IfSome port.via (All (λ tile. tile < 12))) ports.now }
     ensures { programs.new ≡ record programs.old { programs = with_links (map port_view ports.now) programs.old.programs } }
 {

@@ -1,10 +1,9 @@
 //! The one call that does all that the program does.
 ghost use Rattle.std.specs.Prelude.{◌≡◌, ◌≢◌, ◌↔◌, ◌⊎◌, ℕ, List, Option, Some, None, OnErr, IsErrOf};
-ghost use Rattle.tis_cli.specs.declared.status.Refusal.{Refusal};
 ghost use Rattle.tis_base.specs.Outside.{Texts, Rose};
 ghost use Rattle.tis_cli.specs.Answers.{Answer, answer_status};
 ghost use Rattle.tis_cli.specs.Commands.{Command as SomeCommand, Compile, command_of, command_view, fetched, destination_of, ComesTo};
-ghost use Rattle.tis_cli.specs.Outcomes.{words_of, IsCalled, PutsReport, texts_under, IsDone, IsRefused, IsUnlessFault, ended, Explains};
+ghost use Rattle.tis_cli.specs.Outcomes.{words_of, IsCalled, PutsReport, PutsBytes, texts_under, IsOfAnswer, IsOfWork, IsAnswered, IsCutShort, IsUnlessFailure, status_after, Explains};
 
 use crate::command::{Command, read_words};
 use crate::net_emit::emit;
@@ -16,7 +15,7 @@ use tis_save::write_save;
 
 // Compiles the network under one name, and keeps its save under another.
 fn compile<S: Store>(alloc: Global, net: &str, save: &str, store: &mut S) -> Result<(), Status>
-    ensures explains { (written : Option (List ℕ)) → Explains (Compile net.now save.now) (S.texts store.old) written (ended result) (record { texts = S.texts store.new; written = written }) }
+    ensures explains { (written : Option (List ℕ)) → Explains (Compile net.now save.now) (S.texts store.old) written (status_after result) (record { texts = S.texts store.new; written = written }) }
     ensures texts_stay { OnErr result (S.texts store.new ≡ S.texts store.old) }
     ensures missing_counted { IsErrOf result Status.Missing → Rose (S.misses store.old) (S.misses store.new) }
     ensures fault_counted { IsErrOf result Status.StoreFault → Rose (S.faults store.old) (S.faults store.new) }
@@ -33,7 +32,7 @@ fn compile<S: Store>(alloc: Global, net: &str, save: &str, store: &mut S) -> Res
 
 // The status of a command that was done, or stopped with another one.
 fn status_of(outcome: Result<(), Status>) -> Status
-    ensures { result ≡ ended outcome }
+    ensures { result ≡ status_after outcome }
 {
     match outcome {
         Ok(()) => Status::Done,
@@ -59,7 +58,8 @@ fn perform<S: Store>(alloc: Global, command: Command, store: &mut S) -> Status
 ///
 /// `compile NET SAVE` fetches the text under the name NET, and keeps the canonical save of the
 /// network that it is under the name SAVE. Other words are no command. The words are looked at
-/// first, then the names, then the texts in the order in which a command reads them, then its work.
+/// first, then the names, then the texts in the order in which a command reads them, then its work;
+/// what it makes is kept, or put as a report, at the end.
 pub fn tool<S: Store, K: Sink>(
     alloc: Global,
     words: &[String],
@@ -73,21 +73,19 @@ pub fn tool<S: Store, K: Sink>(
     // A name that the command fetches isn't there.
     ensures missing_counted { result ≡ Status.Missing → Rose (S.misses store.old) (S.misses store.new) }
     ensures missing_only { (command : SomeCommand) (texts : Texts) → IsCalled (words_of words.now) (S.texts store.old) command texts → result ≡ Status.Missing → texts_under texts (fetched command) ≡ None }
-    ensures missing_where { (command : SomeCommand) (texts : Texts) → IsCalled (words_of words.now) (S.texts store.old) command texts → texts_under texts (fetched command) ≡ None → IsUnlessFault (destination_of command) result Status.Missing }
+    ensures missing_where { (command : SomeCommand) (texts : Texts) → IsCalled (words_of words.now) (S.texts store.old) command texts → texts_under texts (fetched command) ≡ None → IsUnlessFailure ⊥ result Status.Missing }
 
-    // The store or the sink failed. Only a command that puts its report meets a fault of the sink.
+    // The store failed, or the sink failed under the report of a command that puts one.
     ensures store_fault_counted { result ≡ Status.StoreFault → Rose (S.faults store.old) (S.faults store.new) }
     ensures sink_fault_counted { result ≡ Status.SinkFault → Rose (K.faults out.old) (K.faults out.new) }
     ensures sink_fault_only { result ≡ Status.SinkFault → PutsReport (words_of words.now) }
+    ensures cut_short { (command : SomeCommand) (texts : Texts) → IsCalled (words_of words.now) (S.texts store.old) command texts → result ≡ Status.SinkFault → IsCutShort command texts (K.written out.old) (K.written out.new) }
 
-    // A text, or the work over it, is refused.
-    ensures refused_only { (command : SomeCommand) (texts : Texts) (refusal : Refusal) → IsCalled (words_of words.now) (S.texts store.old) command texts → result ≡ Status.Refused refusal → IsRefused command texts refusal }
-
-    // All is done.
-    ensures done_only { (command : SomeCommand) (texts : Texts) → IsCalled (words_of words.now) (S.texts store.old) command texts → result ≡ Status.Done → IsDone command texts (K.written out.old) (record { texts = S.texts store.new; written = K.written out.new }) }
+    // A text or the work over it is refused, or the work comes to its end.
+    ensures answered { (command : SomeCommand) (texts : Texts) → IsCalled (words_of words.now) (S.texts store.old) command texts → IsOfAnswer result → IsAnswered command texts (K.written out.old) result (record { texts = S.texts store.new; written = K.written out.new }) }
 
     // What the texts come to is answered, unless the outside failed or memory ran out.
-    ensures complete { (command : SomeCommand) (texts : Texts) (found : List (List ℕ)) (answer : Answer) → IsCalled (words_of words.now) (S.texts store.old) command texts → texts_under texts (fetched command) ≡ Some found → ComesTo command found answer → IsUnlessFault (destination_of command) result (answer_status answer) }
+    ensures complete { (command : SomeCommand) (texts : Texts) (found : List (List ℕ)) (answer : Answer) → IsCalled (words_of words.now) (S.texts store.old) command texts → texts_under texts (fetched command) ≡ Some found → ComesTo command found answer → IsUnlessFailure (PutsBytes (destination_of command) answer) result (answer_status answer) }
 
     // No fault and no miss is passed over.
     ensures misses_stay { result ≢ Status.Missing → S.misses store.new ≡ S.misses store.old }
@@ -96,6 +94,7 @@ pub fn tool<S: Store, K: Sink>(
 
     // Nothing else changes.
     ensures texts_stay { result ≢ Status.Done → S.texts store.new ≡ S.texts store.old }
+    ensures unreported { (IsOfWork result → ⊥) → result ≢ Status.SinkFault → out.new ≡ out.old }
     ensures sink_stays { (PutsReport (words_of words.now) → ⊥) → out.new ≡ out.old }
 {
     match read_words(words) {

@@ -106,7 +106,7 @@ module _ (grid : Grid) (is_grid : IsGrid grid) (position : ℕ) (within : positi
 
   -- nothing is next to the tile above an output on the way down
   below_bottom : (next tile : ℕ) (port : Dir) → tile ≡ bottom_of grid position → port ≡ Down → next_tile grid tile port ≡ Some next → ⊥
-  below_bottom next tile port same down is = none_below grid.puzzle.tiles.shape position next (some_rows grid.puzzle.tiles is_grid.puzzle.board) (ap₂ (λ (t : ℕ) (d : Dir). next_tile grid t d) (sym same) (sym down) ∙ is)
+  below_bottom next tile port same down is = none_below grid.puzzle.tiles.shape position next (some_rows grid.puzzle.tiles is_grid.puzzle.tiles) (ap₂ (λ (t : ℕ) (d : Dir). next_tile grid t d) (sym same) (sym down) ∙ is)
 
   -- what an event brings to an output the tile above it gives
   event_gives : (state : State) (event : Event) → Fits grid state → Enables grid state event → outs (after_event grid state event) position ≡ outs state position ++ given_to Down (steps_in grid state event (bottom_of grid position))

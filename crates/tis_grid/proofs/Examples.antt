@@ -1,9 +1,11 @@
 -- Worked examples of events and orders: three tiles of a column that pass values on, and a tile beside a stack.
 use Rattle.std.proofs.Common.{◌≡◌, ℕ, pos, true, false, Some, None, unwrap_or, List, [], ◌∷◌, ◌++◌, length, replicate, refl}
 use Rattle.std.specs.Prelude.{is_some}
-use Rattle.tis_base.specs.declared.tiles.Dir.TheVariants.{Up, Down, Right}
+use Rattle.tis_base.specs.declared.tiles.Dir.TheVariants.{Up, Down, Left, Right}
 use Rattle.tis_base.specs.declared.tiles.TileKind.TheVariants.{Compute, Memory}
+use Rattle.tis_asm.specs.declared.instr.Source.{Source}
 use Rattle.tis_asm.specs.declared.instr.Source.TheVariants as from
+use Rattle.tis_asm.specs.declared.instr.Dest.{Dest}
 use Rattle.tis_asm.specs.declared.instr.Dest.TheVariants as to
 use Rattle.tis_asm.specs.declared.instr.Instr.TheVariants.{Mov}
 use Rattle.tis_asm.specs.declared.program.MarkedInstr.{MarkedInstr}
@@ -121,6 +123,54 @@ drawn_gives = refl
 -- with seven events at most the second value doesn't come out
 drawn_to_limit : outs (end_of column (drawn column (start column) 7 7)) 1 ≡ pos 5 ∷ []
 drawn_to_limit = refl
+
+-- which event is chosen: the word's share of the list, not its first event and not the word's remainder
+drawn_so : drawn column (start column) 1 100 ≡ In 1 ∷ first_meets ∷ In 1 ∷ second_meets ∷ Out 1 ∷ first_meets ∷ second_meets ∷ Out 1 ∷ []
+drawn_so = refl
+
+-- ---- whichever neighbour comes first
+
+-- one value comes in above column 0 and one above column 2, and both are wanted below column 1
+abbrev two_sides : Puzzle
+two_sides =
+    record {
+      tiles = record { shape = record { columns = 4; rows = 3 }; kinds = replicate 12 Compute };
+      inputs = record { position = 0; values = pos 1 ∷ [] } ∷ record { position = 2; values = pos 2 ∷ [] } ∷ [];
+      outputs = record { position = 1; kind = Stream; expected = pos 1 ∷ pos 2 ∷ [] } ∷ [];
+    }
+
+-- from a port to a port
+abbrev moving : Source → Dest → List MarkedInstr
+moving source dest = record { instr = Mov source dest; mark = false } ∷ []
+
+-- tiles 0 and 2 pass their values to tile 1 between them, which takes them as they come
+abbrev merging : Grid
+merging =
+    record {
+      puzzle = two_sides;
+      programs =
+          moving (from.Port Up) (to.Port Right) ∷ moving from.Any (to.Port Down) ∷ moving (from.Port Up) (to.Port Left) ∷ [] ∷
+          [] ∷ passing ∷ [] ∷ [] ∷
+          [] ∷ passing ∷ [] ∷ [] ∷ [];
+    }
+
+-- tile 1 takes the value of one side
+abbrev from_left : Event
+from_left = Meet (record { number = 0 }) Right
+
+abbrev from_right : Event
+from_right = Meet (record { number = 2 }) Left
+
+-- with one seed the left value comes first, and with another the right one
+drawn_left_first : drawn merging (start merging) 0 100 ≡ In 0 ∷ from_left ∷ first_meets ∷ In 2 ∷ second_meets ∷ from_right ∷ first_meets ∷ Out 1 ∷ second_meets ∷ Out 1 ∷ []
+drawn_left_first = refl
+
+drawn_right_first : drawn merging (start merging) 1 100 ≡ In 2 ∷ from_right ∷ In 0 ∷ first_meets ∷ second_meets ∷ from_left ∷ first_meets ∷ Out 1 ∷ second_meets ∷ Out 1 ∷ []
+drawn_right_first = refl
+
+-- a meeting doesn't go round the end of a row
+no_wrap : is_enabled merging (start merging) (Meet (record { number = 3 }) Right) ≡ false
+no_wrap = refl
 
 -- ---- a stack
 

@@ -21,7 +21,7 @@ use Rattle.tis_grid.proofs.Fitting.{event_fitting}
 module _ (grid : Grid) (is_grid : IsGrid grid) (tile : ℕ) (dir : Dir) (reader : ℕ) (next : next_tile grid tile dir ≡ Some reader) (here : IsCompute grid.puzzle.tiles tile) (there : IsCompute grid.puzzle.tiles reader) where
   -- the link, seen from its reader
   back : next_tile grid reader (opposite dir) ≡ Some tile
-  back = next_back grid.puzzle.tiles.shape tile dir reader (some_columns grid.puzzle.tiles is_grid.puzzle.board) (compute_within grid.puzzle.tiles tile is_grid.puzzle.board here) next
+  back = next_back grid.puzzle.tiles.shape tile dir reader (some_columns grid.puzzle.tiles is_grid.puzzle.tiles) (compute_within grid.puzzle.tiles tile is_grid.puzzle.tiles here) next
 
   -- one event passes a value along the link or leaves it alone
   event_passes : (state : State) (event : Event) → Enables grid state event → given_to dir (steps_in grid state event tile) ≡ taken_from (opposite dir) (steps_in grid state event reader)
@@ -47,7 +47,7 @@ module _ (grid : Grid) (is_grid : IsGrid grid) (tile : ℕ) (dir : Dir) (reader 
   event_passes state (Out position) is =
       let bottom = bottom_of grid position in
       let value = offered state bottom Down in
-      gives_none dir tile bottom Down value (λ same down. none_below grid.puzzle.tiles.shape position reader (some_rows grid.puzzle.tiles is_grid.puzzle.board) (ap₂ (λ (t : ℕ) (d : Dir). next_tile grid t d) same down ∙ next))
+      gives_none dir tile bottom Down value (λ same down. none_below grid.puzzle.tiles.shape position reader (some_rows grid.puzzle.tiles is_grid.puzzle.tiles) (ap₂ (λ (t : ℕ) (d : Dir). next_tile grid t d) same down ∙ next))
       ∙ sym (gave_takes_none (opposite dir) reader bottom Down value)
   event_passes state (Push at port) is =
       let value = offered state at.number port in

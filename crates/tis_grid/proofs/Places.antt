@@ -129,14 +129,14 @@ none_below shape position next some is =
 
 -- ---- tiles
 
--- a board has a column
-pub some_columns : (board : Tiles) → AreTiles board.shape board.kinds → 0 < board.shape.columns
-some_columns board is = omega (arith, is.allowed.0)
+-- tiles have a column
+pub some_columns : (tiles : Tiles) → AreTiles tiles.shape tiles.kinds → 0 < tiles.shape.columns
+some_columns tiles is = omega (arith, is.allowed.0)
 
--- a board has a row
-pub some_rows : (board : Tiles) → AreTiles board.shape board.kinds → 0 < board.shape.rows
-some_rows board is = omega (arith, is.allowed.1)
+-- tiles have a row
+pub some_rows : (tiles : Tiles) → AreTiles tiles.shape tiles.kinds → 0 < tiles.shape.rows
+some_rows tiles is = omega (arith, is.allowed.1)
 
--- a compute tile is on the board
-pub compute_within : (board : Tiles) (tile : ℕ) → AreTiles board.shape board.kinds → IsCompute board tile → tile < board.shape.columns * board.shape.rows
-compute_within board tile is compute = omega (arith, is.filled, slice_get_within board.kinds tile Compute compute)
+-- a compute tile is on the grid
+pub compute_within : (tiles : Tiles) (tile : ℕ) → AreTiles tiles.shape tiles.kinds → IsCompute tiles tile → tile < tiles.shape.columns * tiles.shape.rows
+compute_within tiles tile is compute = omega (arith, is.filled, slice_get_within tiles.kinds tile Compute compute)

@@ -24,7 +24,7 @@ module _ (grid : Grid) (state : State) (is_grid : IsGrid grid) (fits : Fits grid
       let meets = meeting grid state at dir is in
       let next = reached grid at.number dir in
       let value = offered state at.number dir in
-      let apart = next_differs grid.puzzle.tiles.shape at.number dir next (some_columns grid.puzzle.tiles is_grid.puzzle.board) meets.next in
+      let apart = next_differs grid.puzzle.tiles.shape at.number dir next (some_columns grid.puzzle.tiles is_grid.puzzle.tiles) meets.next in
       both_act (λ t. program_of grid t) state.nodes at.number next (Gave dir value) (Took (opposite dir) value) tile apart
       (has_node grid state at.number fits meets.offers.compute) (has_node grid state next fits meets.wants.compute) (gives grid state at.number dir meets.offers) (meets.wants.wants, offered_value grid state at.number dir fits meets.offers)
   event_does (In position) is =

@@ -1,6 +1,7 @@
 -- Laws of every grid, whatever its programs and whatever the order.
 use Rattle.std.specs.Prelude.{◌≡◌, ◌↔◌, ℕ, ◌<◌, ◌≤◌, List, [], ◌++◌, length, sum_by, Some, Contains}
 use Rattle.std.specs.List.{range_with_len}
+use Rattle.tis_base.specs.Prefix.{IsPrefixOf}
 use Rattle.tis_base.specs.Tiles.{IsCompute, opposite}
 use Rattle.tis_base.specs.declared.tiles.Dir.{Dir}
 use Rattle.tis_base.specs.declared.tiles.Dir.TheVariants.{Up, Down}
@@ -58,15 +59,20 @@ StepsCountEvents = (grid : Grid) (state : State) (events : List Event) (end : St
 abbrev pub EnabledAreListed : Type 0
 EnabledAreListed = (grid : Grid) (state : State) (event : Event) → IsGrid grid → IsEnabled grid state event ↔ Contains (enabled_events grid state) event
 
--- at rest none is listed
+-- none is listed exactly at rest
 abbrev pub RestListsNone : Type 0
 RestListsNone = (grid : Grid) (state : State) → IsGrid grid → IsAtRest grid state ↔ (enabled_events grid state ≡ [])
 
--- a drawn order is legal, has no more events than it may, and fewer only where it ends at rest
-pub record IsDrawn (grid : Grid) (state : State) (most : ℕ) (events : List Event) : Type 0 where
+-- the order is legal, has no more events than it may, and fewer only where it ends at rest
+pub record IsMaximalWithin (grid : Grid) (state : State) (most : ℕ) (events : List Event) : Type 0 where
   pub legal : IsLegal grid state events
   pub few : length events ≤ most
   pub rests : length events < most → (end : State) → after grid state events ≡ Some end → IsAtRest grid end
 
+-- an order that is drawn is legal, and ends at its limit or at rest
 abbrev pub DrawnOrdersAreLegal : Type 0
-DrawnOrdersAreLegal = (grid : Grid) (state : State) (seed most : ℕ) → IsGrid grid → IsDrawn grid state most (drawn grid state seed most)
+DrawnOrdersAreLegal = (grid : Grid) (state : State) (seed most : ℕ) → IsGrid grid → IsMaximalWithin grid state most (drawn grid state seed most)
+
+-- with a higher limit the same order goes on
+abbrev pub DrawnOrdersGrow : Type 0
+DrawnOrdersGrow = (grid : Grid) (state : State) (seed few most : ℕ) → few ≤ most → IsPrefixOf (drawn grid state seed few) (drawn grid state seed most)

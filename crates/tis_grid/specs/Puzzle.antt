@@ -36,7 +36,7 @@ puzzle_of p = record { tiles = p.tiles; inputs = map input_of p.inputs.items; ou
 
 -- the positions are below the columns and distinct on each side, and the values are values of the machine
 pub record IsPuzzle (puzzle : Puzzle) : Type 0 where
-  pub board : AreTiles puzzle.tiles.shape puzzle.tiles.kinds
+  pub tiles : AreTiles puzzle.tiles.shape puzzle.tiles.kinds
   pub inputs_below : All (λ input. input.position < puzzle.tiles.shape.columns) puzzle.inputs
   pub outputs_below : All (λ output. output.position < puzzle.tiles.shape.columns) puzzle.outputs
   pub inputs_distinct : AllPairs (λ a b. a.position ≢ b.position) puzzle.inputs

@@ -1,5 +1,5 @@
 //! Laws of every grid, whatever its programs and whatever the order.
-ghost use Rattle.tis_grid.specs.Laws.{StartFits, OrdersKeepFitting, OrdersAreRuns, LinksPassAll, InputsPassAll, OutputsPassAll, StepsCountEvents, EnabledAreListed, RestListsNone, DrawnOrdersAreLegal};
+ghost use Rattle.tis_grid.specs.Laws.{StartFits, OrdersKeepFitting, OrdersAreRuns, LinksPassAll, InputsPassAll, OutputsPassAll, StepsCountEvents, EnabledAreListed, RestListsNone, DrawnOrdersAreLegal, DrawnOrdersGrow};
 
 /// The start of a grid is a state of it, and so is what a legal order leads to.
 pub fn states_fit()
@@ -32,7 +32,9 @@ pub fn enabled_events_are_listed()
     ensures rest { RestListsNone }
 {}
 
-/// An order that is drawn from a seed is legal, and ends before it may only at rest.
+/// An order that is drawn from a seed is legal, and ends before it may only at rest. With a higher limit
+/// the same order goes on.
 pub fn drawn_orders_are_legal()
     ensures drawn { DrawnOrdersAreLegal }
+    ensures grow { DrawnOrdersGrow }
 {}

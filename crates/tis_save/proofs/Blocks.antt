@@ -30,9 +30,9 @@ one_more true kinds tile lt is = count_by_more_yes is_compute kinds tile Damaged
 one_more false kinds tile lt is = count_by_more_no is_compute kinds tile Damaged lt is ∙ omega arith
 
 -- the number of the block behind a tile
-pub block_of-next : (board : Tiles) (tile : ℕ) (kind : TileKind) → slice_get board.kinds tile ≡ Some kind → block_of board (tile + 1) ≡ block_of board tile + cond (is_compute kind) 1 0
-block_of-next board tile kind found =
-    one_more (is_compute kind) board.kinds tile (slice_get_within board.kinds tile kind found) (ap is_compute (get_or_from_slice_get board.kinds tile kind Damaged found))
+pub block_of-next : (tiles : Tiles) (tile : ℕ) (kind : TileKind) → slice_get tiles.kinds tile ≡ Some kind → block_of tiles (tile + 1) ≡ block_of tiles tile + cond (is_compute kind) 1 0
+block_of-next tiles tile kind found =
+    one_more (is_compute kind) tiles.kinds tile (slice_get_within tiles.kinds tile kind found) (ap is_compute (get_or_from_slice_get tiles.kinds tile kind Damaged found))
 
 -- the block that was written is that of the tile
 pub written_block : (programs : Programs) (tile block : ℕ) (program : List MarkedInstr) → slice_get programs.programs tile ≡ Some program → block ≡ block_of programs.tiles tile → block_text (64 ∷ decimal block) program ≡ tile_text programs tile

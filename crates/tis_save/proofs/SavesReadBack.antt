@@ -274,4 +274,4 @@ module _ (programs : Programs) (small : length programs.tiles.kinds < 1000) (is 
 
 -- the canonical save of a programs whose jumps stay inside is read as that programs
 pub saves_read_back : SavesReadBack
-saves_read_back programs board is sound = save-read programs (omega (arith, board.filled, ap (λ (columns : ℕ). columns * programs.tiles.shape.rows) board.allowed.0, ap (λ (rows : ℕ). 4 * rows) board.allowed.1)) is sound
+saves_read_back programs tiles is sound = save-read programs (omega (arith, tiles.filled, ap (λ (columns : ℕ). columns * programs.tiles.shape.rows) tiles.allowed.0, ap (λ (rows : ℕ). 4 * rows) tiles.allowed.1)) is sound

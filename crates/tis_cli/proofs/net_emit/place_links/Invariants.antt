@@ -6,6 +6,6 @@ use Rattle.tis_cli.proofs.net_emit.place_links.Given as goal
 abbrev pub invariant-loop-port : goal.invariant-loop-port
 invariant-loop-port l =
     record {
-      board : l.programs.tiles ≡ l.initial.programs.tiles;
+      tiles : l.programs.tiles ≡ l.initial.programs.tiles;
       same : with_links (map port_view l.ports) l.initial.programs.programs ≡ with_links (map port_view (drop l.port-index l.ports)) l.programs.programs;
     }

@@ -11,7 +11,7 @@ loop-index-preserved c =
     let after = λ (programs : List (List MarkedInstr)). with_passes (drop (c.loop-index.index + 1) c.args.path.now) programs in
     let put : c.set.new.self.programs ≡ slice_set c.loop-index.programs.programs c.at-number.result c.pass_program.result = ap (λ (l : Programs). l.programs) c.set.ensures in
     record {
-      board = ap (λ (l : Programs). l.tiles) c.set.ensures ∙ c.loop-index.invariant.board;
+      tiles = ap (λ (l : Programs). l.tiles) c.set.ensures ∙ c.loop-index.invariant.tiles;
       same =
           c.loop-index.invariant.same
           ∙ passes_more c.args.path.now c.loop-index.index c.at-number.result c.loop-index.programs.programs c.at-number.ensures

@@ -9,7 +9,8 @@ pub returns-in_err-tree-clause-explains : goal.returns-in_err-tree-clause-explai
 returns-in_err-tree-clause-explains g c written =
     let status : c.from_residual-in_err-tree.result ≡ Err (net_status c.in_err-tree.field-0.0) = search rules in
     rw status
-    (unread_explained (g.S.Store.texts c.args.store.now) c.args.net.now c.args.save.now c.in_ok-text.text.items c.deref.result.now c.in_ok-text.ensures.ok c.deref.ensures.value written _ c.in_err-tree.field-0.0
+    (unread_explained (g.S.Store.texts c.args.store.now) c.args.net.now c.args.save.now c.in_ok-text.text.items c.deref.result.now c.in_ok-text.ensures.ok c.deref.ensures.value
+    (g.S.Store.texts c.fetch.new.self) c.in_ok-text.ensures.texts_stay written c.in_err-tree.field-0.0
     (λ is. c.in_err-tree.ensures.refused (ap (λ e. Err e) is)))
 
 pub returns-clause-explains : goal.returns-clause-explains

@@ -1,7 +1,7 @@
 use Rattle.std.proofs.Common.{◌≡◌, List, ℕ, Some}
 use Rattle.tis_cli.specs.declared.status.Status.TheVariants.{Words}
 use Rattle.tis_cli.specs.Outcomes.{words_of}
-use Rattle.tis_cli.proofs.Statuses.{explained_at, never_words, some_command, none_puts, sink_fault_only, missing_only, missing_where, refused_only, done_only, complete}
+use Rattle.tis_cli.proofs.Statuses.{explained_at, never_words, never_sink_fault, some_command, missing_only, missing_where, answered, complete}
 use Rattle.tis_cli.proofs.run.tool.Goals as goal
 
 pub returns-in-Some-clause-words : goal.returns-in-Some-clause-words
@@ -21,19 +21,18 @@ pub returns-in-Some-clause-missing_where : goal.returns-in-Some-clause-missing_w
 returns-in-Some-clause-missing_where g c = λ command texts called.
     missing_where command _ _ _ _ texts called.texts_told (explained_at _ _ _ _ _ _ command texts c.in-Some.ensures called (c.perform.ensures.explains (g.K.Sink.written c.args.out.now)))
 
-pub returns-in-Some-clause-sink_fault_only : goal.returns-in-Some-clause-sink_fault_only
-returns-in-Some-clause-sink_fault_only g c = sink_fault_only (words_of c.args.words.now) _ _ _ _ _ c.in-Some.ensures (c.perform.ensures.explains (g.K.Sink.written c.args.out.now))
-
 pub returns-in-Some-clause-sink_fault_counted : goal.returns-in-Some-clause-sink_fault_counted
-returns-in-Some-clause-sink_fault_counted g c = λ failed. absurd (none_puts (words_of c.args.words.now) (sink_fault_only (words_of c.args.words.now) _ _ _ _ _ c.in-Some.ensures (c.perform.ensures.explains (g.K.Sink.written c.args.out.now)) failed))
+returns-in-Some-clause-sink_fault_counted g c = never_sink_fault _ _ _ _ _ (c.perform.ensures.explains (g.K.Sink.written c.args.out.now))
 
-pub returns-in-Some-clause-refused_only : goal.returns-in-Some-clause-refused_only
-returns-in-Some-clause-refused_only g c = λ command texts refusal called.
-    refused_only command _ _ _ _ texts called.texts_told (explained_at _ _ _ _ _ _ command texts c.in-Some.ensures called (c.perform.ensures.explains (g.K.Sink.written c.args.out.now))) refusal
+pub returns-in-Some-clause-sink_fault_only : goal.returns-in-Some-clause-sink_fault_only
+returns-in-Some-clause-sink_fault_only g c = never_sink_fault _ _ _ _ _ (c.perform.ensures.explains (g.K.Sink.written c.args.out.now))
 
-pub returns-in-Some-clause-done_only : goal.returns-in-Some-clause-done_only
-returns-in-Some-clause-done_only g c = λ command texts called.
-    done_only command _ _ _ _ texts called.texts_told (explained_at _ _ _ _ _ _ command texts c.in-Some.ensures called (c.perform.ensures.explains (g.K.Sink.written c.args.out.now)))
+pub returns-in-Some-clause-cut_short : goal.returns-in-Some-clause-cut_short
+returns-in-Some-clause-cut_short g c = λ command texts called. never_sink_fault _ _ _ _ _ (c.perform.ensures.explains (g.K.Sink.written c.args.out.now))
+
+pub returns-in-Some-clause-answered : goal.returns-in-Some-clause-answered
+returns-in-Some-clause-answered g c = λ command texts called.
+    answered command _ _ _ _ texts called.texts_told (explained_at _ _ _ _ _ _ command texts c.in-Some.ensures called (c.perform.ensures.explains (g.K.Sink.written c.args.out.now)))
 
 pub returns-in-Some-clause-complete : goal.returns-in-Some-clause-complete
 returns-in-Some-clause-complete g c = λ command texts found answer called.

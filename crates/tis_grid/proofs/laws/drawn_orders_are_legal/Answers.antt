@@ -3,4 +3,4 @@ use Rattle.tis_grid.proofs.DrawnOrders as DrawnOrders
 use Rattle.tis_grid.proofs.laws.drawn_orders_are_legal.Goals as goal
 
 pub returns : goal.returns
-returns c = record { drawn = DrawnOrders.drawn_orders_are_legal }
+returns c = record { drawn = DrawnOrders.drawn_orders_are_legal; grow = DrawnOrders.drawn_orders_grow }
