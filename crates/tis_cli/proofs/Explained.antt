@@ -5,7 +5,7 @@ use Rattle.tis_base.specs.Outside.{Texts, text_at, with_text}
 use Rattle.tis_cli.specs.declared.status.Refusal.TheVariants.{NotThisForm}
 use Rattle.tis_cli.specs.declared.net_syntax.tree.NetError.{NetError}
 use Rattle.tis_cli.specs.declared.net_syntax.tree.NetError.TheVariants as unread
-use Rattle.tis_cli.specs.Statuses.{net_status, store_status}
+use Rattle.tis_cli.specs.Statuses.{net_status}
 use Rattle.tis_cli.specs.Answers.{Refuses, Makes, AllDone}
 use Rattle.tis_cli.specs.Commands.{Compile, IsCompiled}
 use Rattle.tis_cli.specs.Net.{Net}
@@ -13,7 +13,7 @@ use Rattle.tis_cli.specs.Column.{column_net, NetOf}
 use Rattle.tis_cli.specs.Compiled.{compiled}
 use Rattle.tis_save.specs.Writing.{save_text}
 use Rattle.tis_save.specs.Reading.{save_of}
-use Rattle.tis_cli.specs.Outcomes.{texts_under, with_first, World, IsAnswered, Explains}
+use Rattle.tis_cli.specs.Outcomes.{texts_under, with_first, IsAnswered, Explains}
 use Rattle.tis_cli.specs.declared.status.Status.TheVariants.{Done, Refused}
 use Rattle.tis_cli.proofs.Columns.{net_carries}
 use Rattle.tis_cli.proofs.ColumnPrograms.{column_are_programs, column_is_sound}

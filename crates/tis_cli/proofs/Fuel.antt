@@ -1,5 +1,5 @@
 -- An execution begins fewer steps than it has fuel, and each step takes one unit.
-use Rattle.std.proofs.Common.{◌≡◌, ℕ, zero, suc, ◌+◌, ◌<◌, ◌≤◌, true, false, cond, ℤ, List, [], ◌∷◌, map, refl, arith}
+use Rattle.std.proofs.Common.{◌≡◌, ℕ, zero, suc, ◌+◌, ◌<◌, ◌≤◌, true, false, cond, ℤ, List, [], ◌∷◌, refl, arith}
 use Rattle.std.specs.Prelude.{nat_lt, sum_by}
 use Rattle.std.proofs.lemmas.Bool.{ltb-true}
 use Rattle.std.proofs.lemmas.List.Sums.{sum_by-cons}
@@ -30,8 +30,8 @@ spends_begun : (state : ProcessState) (next : ProcessState → Execution) → ((
 spends_begun state next rest =
     elim (nat_lt 1 state.fuel) as (λ enough. nat_lt 1 state.fuel ≡ enough → Spends state (cond enough (next (stepped state)) (record { state = state; outcome = OutOfFuel })).state) [
       | true ↦ λ enough. let more : 1 < state.fuel = ltb-true 1 state.fuel enough in
-        let later = rest (stepped state) in
-        record { all = omega (arith, later.all); some = λ some. later.some (omega arith) }
+          let later = rest (stepped state) in
+          record { all = omega (arith, later.all); some = λ some. later.some (omega arith) }
       | false ↦ λ none. spends_not state
     ] refl
 

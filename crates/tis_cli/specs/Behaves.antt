@@ -19,14 +19,20 @@ stream_of name values = with_stream (λ other. []) name values
 abbrev pub process_over : List Statement → Name → List ℤ → Execution
 process_over body read values = process_run body (stream_of read values) ((1 + length values) * body_cost body + 1)
 
--- after these steps the node is where the process is: it took from above alone and gave downwards alone; what it gave is a prefix of what the process sent; where it wants a value the process waits for one, and all that was sent is given; where it offers a value, that is the next one that was sent; there are at most eight local steps for each step of the process
+-- after these steps the node is where the process is
 pub record BehavesAfter (program : List MarkedInstr) (process : Execution) (read written : Name) (steps : List Step) (node : Node) : Type 0 where
+  -- it took from above alone, and gave downwards alone
   pub takes_above : (dir : Dir) → dir ≢ Up → taken_from dir steps ≡ []
   pub gives_below : (dir : Dir) → dir ≢ Down → given_to dir steps ≡ []
+  -- what it gave, the process sent, in this order
   pub prefix : IsPrefixOf (given_to Down steps) (process.state.sent written)
+  -- where it wants a value the process waits for one, and nothing is left to give
   pub waits : IsTrue (wants program node Up) → (process.outcome ≡ WaitsOn read) × (given_to Down steps ≡ process.state.sent written)
+  -- what it offers is what the process sent next
   pub next : (value : ℤ) → offers node Down ≡ Some value → IsPrefixOf (given_to Down steps ++ value ∷ []) (process.state.sent written)
+  -- by itself it did no more than eight steps for one of the process
   pub local : local_count steps ≤ 8 * process.state.steps
+  -- the process came to wait, and not to the end of its fuel
   pub within_fuel : process.outcome ≢ OutOfFuel
 
 -- the program has an instruction, so that its node is never stuck by itself; and whatever its neighbours do, it behaves as the process over the values that it took

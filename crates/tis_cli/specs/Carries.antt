@@ -9,7 +9,7 @@ use Rattle.tis_grid.specs.Orders.{after, IsAtRest}
 use Rattle.tis_cli.specs.Net.{Net}
 use Rattle.tis_cli.specs.Kahn.{kahn_at, bound}
 
--- the puzzle has the network's tiles, and an output at each position where the network has one
+-- the network can stand in the puzzle: the tiles are the same, and where the network has an output, the puzzle has one of either kind
 pub record FitsNet (puzzle : Puzzle) (net : Net) : Type 0 where
   pub tiles : puzzle.tiles ≡ net.tiles
   pub outputs : All (λ port. HasOutput puzzle.outputs port.position) net.outputs

@@ -1,4 +1,4 @@
--- The streams of a network: the one solution of Kahn's equations, found in text order, since nothing is fed back.
+-- The streams of a network, found process by process in the order of the text. Without feedback that solves the equations that Kahn writes for them.
 use Rattle.std.specs.Prelude.{ℕ, ◌+◌, ◌*◌, ◌≤◌, ℤ, List, [], ◌∷◌, ◌++◌, length, map, sum_by, ◌==◌, if◌then◌else◌}
 use Rattle.tis_grid.specs.Puzzle.{Input, values_at}
 use Rattle.tis_cli.specs.Net.{Name, PortLine, Process, Net}

@@ -4,7 +4,6 @@ use Rattle.std.specs.declared.alloc.Global.{Global}
 use Rattle.tis_base.specs.Outside.{Texts, text_at, with_text, WrotePrefix}
 use Rattle.tis_cli.specs.declared.status.Status.{Status}
 use Rattle.tis_cli.specs.declared.status.Status.TheVariants.{Done, Words, Refused, Missing, StoreFault, SinkFault, NoMemory}
-use Rattle.tis_cli.specs.declared.status.Refusal.{Refusal}
 use Rattle.tis_cli.specs.Answers.{Completion, AllDone, Answer, Refuses, Makes, Destination, Kept, Put, completion_status, answer_status}
 use Rattle.tis_cli.specs.Commands.{Command, command_of, fetched, destination_of, ComesTo, IsPromised}
 

@@ -1,7 +1,7 @@
 -- Small pictures, drawn by hand.
-use Rattle.std.proofs.Common.{◌≡◌, pos, negsuc, List, [], ◌∷◌, refl}
-use Rattle.std.specs.Prelude.{ℤ, slice_get, Some}
-use Rattle.tis_devices.specs.Picture.{BeforeX, BeforeY, Before, picture, black, point_of}
+use Rattle.std.proofs.Common.{◌≡◌, pos, negsuc, [], ◌∷◌, refl}
+use Rattle.std.specs.Prelude.{slice_get, Some}
+use Rattle.tis_devices.specs.Picture.{BeforeX, Before, picture, black, point_of}
 
 -- nothing is drawn by nothing
 of_nothing : picture [] ≡ black

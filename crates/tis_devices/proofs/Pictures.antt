@@ -1,10 +1,10 @@
 -- What drawings do to a picture.
-use Rattle.std.proofs.Common.{◌≡◌, ℕ, suc, ◌+◌, ◌*◌, ◌-◌, ◌<◌, ◌≤◌, ℤ, pos, negsuc, true, false, cond, List, [], ◌∷◌, ◌++◌, length, min, refl, sym, ap, subst, ◌∙◌, append_assoc, arith}
+use Rattle.std.proofs.Common.{◌≡◌, ℕ, ◌+◌, ◌*◌, ◌≤◌, ℤ, pos, negsuc, true, false, cond, List, [], ◌∷◌, ◌++◌, length, min, refl, ap, ◌∙◌, arith}
 use Rattle.std.specs.Prelude.{◌&&◌, All, nat_lt, nat_le, slice_set}
 use Rattle.std.proofs.Math.ListN.{length-set}
 use Rattle.std.proofs.lemmas.Bool.{leb-true, and_parts}
 use Rattle.std.proofs.lemmas.List.Elements.{All-set, All-replicate}
-use Rattle.tis_devices.specs.Picture.{COLUMNS, ROWS, RED, LAST_COLUMN, Place, BeforeX, BeforeY, Before, Picture, black, point_of, is_painted, painted, drawn_at, after_value, after_values, picture, painted_right, colours_of, DrawingsPaint, PicturesGrow, PicturesAreWhole}
+use Rattle.tis_devices.specs.Picture.{COLUMNS, ROWS, RED, LAST_COLUMN, Place, BeforeX, BeforeY, Before, Picture, black, point_of, is_painted, painted, drawn_at, after_value, after_values, picture, painted_right, values_of, DrawingsPaint, PicturesGrow, PicturesAreWhole}
 
 -- values one after the other
 after_values-append : (shown : Picture) (first second : List ℤ) → after_values shown (first ++ second) ≡ after_values (after_values shown first) second
@@ -21,22 +21,22 @@ one_further x inside = omega arith
 
 -- a run of colours, and the end of the drawing
 run_paints : (colours : List ℕ) (x y : ℕ) (run : List ℕ) (ended : ℕ) → x + length run ≤ LAST_COLUMN →
-    after_values (record { colours = colours; place = Before x y }) (colours_of run ++ negsuc ended ∷ []) ≡ record { colours = painted_right colours x y run; place = BeforeX }
+    after_values (record { colours = colours; place = Before x y }) (values_of run ++ negsuc ended ∷ []) ≡ record { colours = painted_right colours x y run; place = BeforeX }
 run_paints colours x y [] ended inside = refl
 run_paints colours x y (colour ∷ run) ended inside =
-    ap (λ (column : ℕ). after_values (record { colours = painted colours x y colour; place = Before column y }) (colours_of run ++ negsuc ended ∷ [])) (one_further x (omega arith))
+    ap (λ (column : ℕ). after_values (record { colours = painted colours x y colour; place = Before column y }) (values_of run ++ negsuc ended ∷ [])) (one_further x (omega arith))
     ∙ run_paints (painted colours x y colour) (x + 1) y run ended (omega arith)
 
 -- a whole drawing on what stands
 drawing_paints : (shown : Picture) (x y : ℕ) (run : List ℕ) (ended : ℕ) → shown.place ≡ BeforeX → x + length run ≤ LAST_COLUMN →
-    after_values shown ((pos x ∷ pos y ∷ colours_of run) ++ negsuc ended ∷ []) ≡ record { colours = painted_right shown.colours x y run; place = BeforeX }
+    after_values shown ((pos x ∷ pos y ∷ values_of run) ++ negsuc ended ∷ []) ≡ record { colours = painted_right shown.colours x y run; place = BeforeX }
 drawing_paints shown x y run ended at_start inside =
-    ap (λ (place : Place). after_values (record { colours = shown.colours; place = place }) ((pos x ∷ pos y ∷ colours_of run) ++ negsuc ended ∷ [])) at_start
+    ap (λ (place : Place). after_values (record { colours = shown.colours; place = place }) ((pos x ∷ pos y ∷ values_of run) ++ negsuc ended ∷ [])) at_start
     ∙ run_paints shown.colours x y run ended inside
 
 pub drawings_paint : DrawingsPaint
 drawings_paint before x y run ended at_start inside =
-    pictures_grow before ((pos x ∷ pos y ∷ colours_of run) ++ negsuc ended ∷ []) ∙ drawing_paints (picture before) x y run ended at_start inside
+    pictures_grow before ((pos x ∷ pos y ∷ values_of run) ++ negsuc ended ∷ []) ∙ drawing_paints (picture before) x y run ended at_start inside
 
 -- ---- all colours
 

@@ -1,14 +1,15 @@
 -- The picture that an output draws on the console: what its values, first to last, make of a black one.
-use Rattle.std.specs.Prelude.{◌≡◌, ℕ, ◌+◌, ◌*◌, ◌<◌, ◌≤◌, ℤ, pos, negsuc, Bool, ◌&&◌, List, [], ◌∷◌, ◌++◌, length, replicate, fold, slice_set, min, All, nat_lt, nat_le, if◌then◌else◌}
+use Rattle.std.specs.Prelude.{◌≡◌, ℕ, ◌+◌, ◌*◌, ◌≤◌, ℤ, pos, negsuc, Bool, ◌&&◌, List, [], ◌∷◌, ◌++◌, length, replicate, slice_set, min, All, nat_lt, nat_le, if◌then◌else◌}
 
--- how many columns and rows the console has
+-- how many columns the console has, from the left
 abbrev pub COLUMNS : ℕ
 COLUMNS = 30
 
+-- rows, from the top
 abbrev pub ROWS : ℕ
 ROWS = 18
 
--- the greatest colour: 0 is black, 1 dark grey, 2 bright grey, 3 white and 4 red
+-- the colour with the greatest number; below it are black, two greys, the darker first, and white
 abbrev pub RED : ℕ
 RED = 4
 
@@ -27,6 +28,7 @@ pub record Picture : Type 0 where
   pub colours : List ℕ
   pub place : Place
 
+-- nothing is drawn yet
 abbrev pub black : Picture
 black = record { colours = replicate (COLUMNS * ROWS) 0; place = BeforeX }
 
@@ -38,11 +40,11 @@ point_of x y = y * COLUMNS + x
 abbrev pub is_painted : ℕ → ℕ → ℕ → Bool
 is_painted x y colour = (nat_lt x COLUMNS && nat_lt y ROWS) && nat_le colour RED
 
--- the colours with this one at a point; a point outside and a colour above 4 paint nothing
+-- the colours with this one at a point, where the point is there and the colour is one
 abbrev pub painted : List ℕ → ℕ → ℕ → ℕ → List ℕ
 painted colours x y colour = if is_painted x y colour then slice_set colours (point_of x y) colour else colours
 
--- a number in a drawing: the X, the Y, or a colour, behind which the drawing is one place further right
+-- a number in a drawing: the X, the Y, or a colour, behind which the drawing stands one column further, up to the last one
 abbrev pub drawn_at : Place → List ℕ → ℕ → Picture
 drawn_at BeforeX colours number = record { colours = colours; place = BeforeY number }
 drawn_at (BeforeY x) colours number = record { colours = colours; place = Before x number }
@@ -64,20 +66,20 @@ picture values = after_values black values
 
 -- ---- laws
 
--- the colours after a run of colours to the right of a point
+-- the colours after a run of colours, from a point on to the right
 abbrev pub painted_right : List ℕ → ℕ → ℕ → List ℕ → List ℕ
 painted_right colours x y [] = colours
 painted_right colours x y (colour ∷ run) = painted_right (painted colours x y colour) (x + 1) y run
 
--- a run of values in range
-abbrev pub colours_of : List ℕ → List ℤ
-colours_of [] = []
-colours_of (colour ∷ run) = pos colour ∷ colours_of run
+-- these numbers as values
+abbrev pub values_of : List ℕ → List ℤ
+values_of [] = []
+values_of (colour ∷ run) = pos colour ∷ values_of run
 
--- a whole drawing, an X, a Y and colours up to a negative value, paints these colours to the right of its point and nothing else, and the next value is an X again
+-- a whole drawing that doesn't pass the last column, an X, a Y and colours up to a negative value, paints these colours from its point on and nothing else, and the next value is an X again
 abbrev pub DrawingsPaint : Type 0
 DrawingsPaint = (before : List ℤ) (x y : ℕ) (run : List ℕ) (ended : ℕ) → (picture before).place ≡ BeforeX → x + length run ≤ LAST_COLUMN →
-    picture (before ++ ((pos x ∷ pos y ∷ colours_of run) ++ negsuc ended ∷ [])) ≡ record { colours = painted_right (picture before).colours x y run; place = BeforeX }
+    picture (before ++ ((pos x ∷ pos y ∷ values_of run) ++ negsuc ended ∷ [])) ≡ record { colours = painted_right (picture before).colours x y run; place = BeforeX }
 
 -- what is drawn later is drawn on what was drawn before
 abbrev pub PicturesGrow : Type 0

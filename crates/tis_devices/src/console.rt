@@ -1,6 +1,6 @@
 //! The console on which an output draws.
-ghost use Rattle.std.specs.Prelude.{◌≡◌, ◌<◌, Some, slice_get};
-ghost use Rattle.tis_devices.specs.Picture.{COLUMNS, ROWS, black, after_value, point_of};
+ghost use Rattle.std.specs.Prelude.{◌≡◌, ◌<◌, ◌≤◌, Some, slice_get};
+ghost use Rattle.tis_devices.specs.Picture.{COLUMNS, ROWS, black, after_value, point_of, RED};
 
 use std::marker::Model;
 use tis_base::Value;
@@ -28,8 +28,8 @@ pub(crate) enum Place {
     Before { x: u16, y: u16 },
 }
 
-/// The console of thirty columns and eighteen rows, with (0, 0) at the upper left. Contracts see the
-/// colours of its points, row by row, and the place in the drawing.
+/// The console: thirty columns, counted from the left, and eighteen rows, counted from the top. Contracts
+/// see the colours of its points, row by row, and the place in the drawing.
 #[derive(Debug, Drop)]
 pub struct Console {
     colours: [u8; POINTS],
@@ -42,10 +42,12 @@ impl Model for Console {
     ghost Value = { Picture };
 
     ghost use Rattle.tis_devices.specs.PlaceView.{place_view, HasColumn};
+    ghost use Rattle.tis_devices.specs.Picture.{RED};
+    ghost use Rattle.std.specs.Prelude.{All, ◌≤◌};
 
     ghost view = { λ c. record { colours = c.colours; place = place_view c.place } };
 
-    ghost invariant = { λ c. HasColumn c.place };
+    ghost invariant = { λ c. HasColumn c.place × All (λ colour. colour ≤ RED) c.colours };
 }
 
 impl Console {
@@ -60,8 +62,8 @@ impl Console {
     }
 
     /// Takes the next value of a drawing: its X, its Y, or the colour of a point, behind which the
-    /// drawing is one place further right. A point outside and a colour above 4 paint nothing. A
-    /// negative value ends the drawing.
+    /// drawing stands one column further, up to column 1,000. What isn't on the console, or is no colour
+    /// from 0 to 4, leaves the picture as it is. A value below 0 ends the drawing, also in place of X or Y.
     pub fn paint(&mut self, value: Value)
         ensures { self.new ≡ after_value self.old value }
     {
@@ -90,7 +92,8 @@ impl Console {
     pub fn pixel(&self, x: u8, y: u8) -> u8
         requires column { x < COLUMNS }
         requires row { y < ROWS }
-        ensures { slice_get self.now.colours (point_of x y) ≡ Some result }
+        ensures pixel { slice_get self.now.colours (point_of x y) ≡ Some result }
+        ensures colour { result ≤ RED }
     {
         self.colours[(u16::from(y) * WIDTH + u16::from(x)) as usize]
     }

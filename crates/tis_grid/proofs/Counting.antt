@@ -12,7 +12,8 @@ use Rattle.tis_asm.specs.PortRuns as port
 use Rattle.tis_grid.specs.declared.event.Event.{Event}
 use Rattle.tis_grid.specs.declared.event.Event.TheVariants.{Local, Meet, In, Out, Push, Pop}
 use Rattle.tis_grid.specs.State.{Grid, State, stack_at, next_value}
-use Rattle.tis_grid.specs.Events.{bottom_of, offered, reached, newest, after_event}
+use Rattle.tis_devices.specs.Stack.{newest}
+use Rattle.tis_grid.specs.Events.{bottom_of, offered, reached, after_event}
 use Rattle.tis_grid.proofs.Total.{Runs}
 use Rattle.tis_grid.proofs.Enabled.{Enables}
 use Rattle.tis_grid.specs.TileSteps.{step_at, steps_in, steps_of}

@@ -1,11 +1,11 @@
 -- Orders that are drawn from a seed are legal, and go on with a higher limit.
-use Rattle.std.proofs.Common.{◌≡◌, ℕ, zero, suc, ◌<◌, ◌≤◌, true, false, cond, List, [], ◌∷◌, length, get_or, Option, Some, None, inl, inr, refl, sym, ap, subst, ◌∙◌, arith}
+use Rattle.std.proofs.Common.{◌≡◌, ℕ, zero, suc, ◌≤◌, true, cond, List, [], ◌∷◌, length, get_or, Option, Some, None, inl, inr, refl, sym, ap, subst, ◌∙◌, arith}
 use Rattle.std.specs.Prelude.{Bool, option_and_then, IsSome}
 use Rattle.rand_pcg.specs.Lcg.{Lcg}
 use Rattle.rand_pcg.specs.Pcg.{pcg32}
 use Rattle.tis_grid.specs.declared.event.Event.{Event}
 use Rattle.tis_grid.specs.State.{Grid, IsGrid, State}
-use Rattle.tis_grid.specs.Events.{is_enabled, after_event, step}
+use Rattle.tis_grid.specs.Events.{is_enabled, after_event}
 use Rattle.tis_grid.specs.Orders.{after, IsAtRest}
 use Rattle.tis_grid.specs.Choices.{all_events, enabled_events}
 use Rattle.tis_grid.specs.Drawn.{choice_of, chosen, drawn_by, generator_of}

@@ -15,7 +15,8 @@ use Rattle.tis_grid.specs.declared.event.Event.{Event}
 use Rattle.tis_grid.specs.declared.event.Event.TheVariants.{Local, Meet, In, Out, Push, Pop}
 use Rattle.tis_grid.specs.Puzzle.{HasOutput, has_output}
 use Rattle.tis_grid.specs.State.{Grid, State, node_at, stack_at, left_at}
-use Rattle.tis_grid.specs.Events.{program_of, next_tile, bottom_of, is_compute_at, is_memory_at, is_waiting, is_giving, has_room, has_value, is_next, is_enabled, IsEnabled, offered, reached, STACK_ROOM}
+use Rattle.tis_devices.specs.Stack.{ROOM}
+use Rattle.tis_grid.specs.Events.{program_of, next_tile, bottom_of, is_compute_at, is_memory_at, is_waiting, is_giving, has_room, has_value, is_next, IsEnabled, offered, reached}
 use Rattle.tis_grid.specs.Orders.{Fits}
 
 -- ---- the parts of an event that is enabled
@@ -42,7 +43,7 @@ Enables grid state (Local tile) = IsCompute grid.puzzle.tiles tile.number × IsT
 Enables grid state (Meet tile dir) = (reader : ℕ) × (next_tile grid tile.number dir ≡ Some reader) × Offers grid state tile.number dir × Wants grid state reader (opposite dir)
 Enables grid state (In position) = (position < grid.puzzle.tiles.shape.columns) × (0 < left_at state position) × Wants grid state position Up
 Enables grid state (Out position) = (position < grid.puzzle.tiles.shape.columns) × HasOutput grid.puzzle.outputs position × Offers grid state (bottom_of grid position) Down
-Enables grid state (Push tile dir) = (stack : ℕ) × MeetsStack grid tile.number dir stack × Offers grid state tile.number dir × (length (stack_at state stack) < STACK_ROOM)
+Enables grid state (Push tile dir) = (stack : ℕ) × MeetsStack grid tile.number dir stack × Offers grid state tile.number dir × (length (stack_at state stack) < ROOM)
 Enables grid state (Pop tile dir) = (stack : ℕ) × MeetsStack grid tile.number dir stack × Wants grid state tile.number dir × (0 < length (stack_at state stack))
 
 -- ---- tests and what they say
@@ -128,8 +129,8 @@ module _ (grid : Grid) (state : State) where
   enabled_parts (Push tile dir) is =
       let parts = and_parts (is_giving grid state tile.number dir) (is_next grid tile.number dir (has_room grid state)) is in
       let next = next_of_test (next_tile grid tile.number dir) (has_room grid state) parts.1 in
-      let room = and_parts (is_memory_at grid next.0) (nat_lt (length (stack_at state next.0)) STACK_ROOM) next.2 in
-      (next.0, record { next = next.1; memory = memory_of grid next.0 room.0 }, offers_of tile.number dir parts.0, ltb-true (length (stack_at state next.0)) STACK_ROOM room.1)
+      let room = and_parts (is_memory_at grid next.0) (nat_lt (length (stack_at state next.0)) ROOM) next.2 in
+      (next.0, record { next = next.1; memory = memory_of grid next.0 room.0 }, offers_of tile.number dir parts.0, ltb-true (length (stack_at state next.0)) ROOM room.1)
   enabled_parts (Pop tile dir) is =
       let parts = and_parts (is_waiting grid state tile.number dir) (is_next grid tile.number dir (has_value grid state)) is in
       let next = next_of_test (next_tile grid tile.number dir) (has_value grid state) parts.1 in
@@ -150,7 +151,7 @@ module _ (grid : Grid) (state : State) where
   enabled_from (Push tile dir) is =
       and_from (is_giving grid state tile.number dir) (is_next grid tile.number dir (has_room grid state)) (offers_from tile.number dir is.2)
       (next_from grid tile.number is.0 dir (has_room grid state) is.1.next
-      (and_from (is_memory_at grid is.0) (nat_lt (length (stack_at state is.0)) STACK_ROOM) (memory_from grid is.0 is.1.memory) (lt-ltb (length (stack_at state is.0)) STACK_ROOM is.3)))
+      (and_from (is_memory_at grid is.0) (nat_lt (length (stack_at state is.0)) ROOM) (memory_from grid is.0 is.1.memory) (lt-ltb (length (stack_at state is.0)) ROOM is.3)))
   enabled_from (Pop tile dir) is =
       and_from (is_waiting grid state tile.number dir) (is_next grid tile.number dir (has_value grid state)) (wants_from tile.number dir is.2)
       (next_from grid tile.number is.0 dir (has_value grid state) is.1.next

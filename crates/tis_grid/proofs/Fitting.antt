@@ -13,7 +13,8 @@ use Rattle.tis_grid.specs.declared.event.Event.{Event}
 use Rattle.tis_grid.specs.declared.event.Event.TheVariants.{Local, Meet, In, Out, Push, Pop}
 use Rattle.tis_grid.specs.Puzzle.{Input, Output, values_at, has_input, has_output}
 use Rattle.tis_grid.specs.State.{Grid, IsGrid, State, node_at, stack_at, input_left, left_at, output_taken, whole_input, empty_output, start}
-use Rattle.tis_grid.specs.Events.{program_of, offered, reached, after_event, without_newest, STACK_ROOM}
+use Rattle.tis_devices.specs.Stack.{without_newest, ROOM}
+use Rattle.tis_grid.specs.Events.{program_of, offered, reached, after_event}
 use Rattle.tis_grid.specs.Orders.{Fits}
 use Rattle.tis_grid.specs.TileSteps.{steps_in}
 use Rattle.tis_grid.proofs.Runs.{does_fit}
@@ -181,7 +182,7 @@ module _ (grid : Grid) (state : State) where
   outputs_kept fits (Pop at dir) is position = fits.outputs position
 
   -- no stack has more than it holds
-  room_kept : (event : Event) → Enables grid state event → ((tile : ℕ) → length (stack_at state tile) ≤ STACK_ROOM) → (tile : ℕ) → length (stack_at (after_event grid state event) tile) ≤ STACK_ROOM
+  room_kept : (event : Event) → Enables grid state event → ((tile : ℕ) → length (stack_at state tile) ≤ ROOM) → (tile : ℕ) → length (stack_at (after_event grid state event) tile) ≤ ROOM
   room_kept (Local at) is room tile = room tile
   room_kept (Meet at dir) is room tile = room tile
   room_kept (In position) is room tile = room tile
@@ -189,12 +190,12 @@ module _ (grid : Grid) (state : State) where
   room_kept (Push at dir) is room tile =
       let stack = reached grid at.number dir in
       let same : is.0 ≡ stack = sym (reached_is grid at.number dir is.0 is.1.next) in
-      let below : length (stack_at state stack) < STACK_ROOM = subst (λ (s : ℕ). length (stack_at state s) < STACK_ROOM) same is.3 in
+      let below : length (stack_at state stack) < ROOM = subst (λ (s : ℕ). length (stack_at state s) < ROOM) same is.3 in
       let value = offered state at.number dir in
-      get_or-set_holds (λ (values : List ℤ). length values ≤ STACK_ROOM) state.stacks stack tile (stack_at state stack ++ value ∷ []) [] (omega (arith, length-append (stack_at state stack) (value ∷ []))) (room tile)
+      get_or-set_holds (λ (values : List ℤ). length values ≤ ROOM) state.stacks stack tile (stack_at state stack ++ value ∷ []) [] (omega (arith, length-append (stack_at state stack) (value ∷ []))) (room tile)
   room_kept (Pop at dir) is room tile =
       let values = stack_at state (reached grid at.number dir) in
-      get_or-set_holds (λ (values : List ℤ). length values ≤ STACK_ROOM) state.stacks (reached grid at.number dir) tile (without_newest values) [] (omega (arith, length-take (length values - 1) values, room (reached grid at.number dir))) (room tile)
+      get_or-set_holds (λ (values : List ℤ). length values ≤ ROOM) state.stacks (reached grid at.number dir) tile (without_newest values) [] (omega (arith, length-take (length values - 1) values, room (reached grid at.number dir))) (room tile)
 
   -- stacks hold values
   values_kept : Fits grid state → (event : Event) → Enables grid state event → (tile : ℕ) → All IsValue (stack_at (after_event grid state event) tile)

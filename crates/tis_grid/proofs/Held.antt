@@ -11,7 +11,8 @@ use Rattle.tis_asm.specs.Node.{Mode, Ready, Writing, One, Any, ModeHasValue, is_
 use Rattle.tis_asm.proofs.Passing.{chosen}
 use Rattle.tis_grid.specs.Puzzle.{Input, values_at}
 use Rattle.tis_grid.specs.State.{Grid, IsGrid, State, node_at, next_value}
-use Rattle.tis_grid.specs.Events.{offered, newest}
+use Rattle.tis_devices.specs.Stack.{newest}
+use Rattle.tis_grid.specs.Events.{offered}
 use Rattle.tis_grid.specs.Orders.{Fits}
 use Rattle.tis_grid.proofs.Enabled.{Offers, gives}
 

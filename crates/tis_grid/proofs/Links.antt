@@ -9,7 +9,8 @@ use Rattle.tis_asm.specs.PortRuns.{Took, Gave, taken_from, given_to}
 use Rattle.tis_grid.specs.declared.event.Event.{Event}
 use Rattle.tis_grid.specs.declared.event.Event.TheVariants.{Local, Meet, In, Out, Push, Pop}
 use Rattle.tis_grid.specs.State.{Grid, IsGrid, State, stack_at, next_value}
-use Rattle.tis_grid.specs.Events.{next_tile, bottom_of, offered, reached, newest, after_event}
+use Rattle.tis_devices.specs.Stack.{newest}
+use Rattle.tis_grid.specs.Events.{next_tile, bottom_of, offered, reached, after_event}
 use Rattle.tis_grid.specs.Orders.{Fits}
 use Rattle.tis_grid.proofs.Total.{Runs}
 use Rattle.tis_grid.specs.TileSteps.{step_at, steps_in, steps_of}

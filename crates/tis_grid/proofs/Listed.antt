@@ -1,6 +1,6 @@
 -- The events that are listed are those that are enabled.
-use Rattle.std.proofs.Common.{◌≡◌, ℕ, zero, suc, ◌+◌, ◌<◌, ◌≤◌, true, false, cond, List, [], ◌∷◌, ◌++◌, length, map, get_or, inl, inr, refl, sym, ap, subst, ◌∙◌, arith}
-use Rattle.std.specs.Prelude.{Bool, ◌⊎◌, ◌↔◌, Contains, flat_map, filter, slice_index_or}
+use Rattle.std.proofs.Common.{◌≡◌, ℕ, zero, suc, ◌+◌, ◌<◌, ◌≤◌, true, false, cond, List, [], ◌∷◌, ◌++◌, length, map, inl, inr, refl, sym, ap, subst, ◌∙◌, arith}
+use Rattle.std.specs.Prelude.{Bool, ◌⊎◌, Contains, flat_map, filter, slice_index_or}
 use Rattle.std.specs.List.{range_with_len}
 use Rattle.std.proofs.Math.Nat.{eq-or-lt_of_le}
 use Rattle.std.proofs.lemmas.Option.{slice_get_within}
@@ -10,10 +10,9 @@ use Rattle.tis_base.specs.declared.tiles.Dir.TheVariants.{Left, Right, Up, Down}
 use Rattle.tis_base.specs.declared.tiles.TileKind.TheVariants.{Compute}
 use Rattle.tis_grid.specs.declared.event.Event.{Event}
 use Rattle.tis_grid.specs.declared.event.Event.TheVariants.{Local, Meet, In, Out, Push, Pop}
-use Rattle.tis_grid.specs.State.{Grid, IsGrid, State}
+use Rattle.tis_grid.specs.State.{Grid, State}
 use Rattle.tis_grid.specs.Events.{is_enabled, IsEnabled}
-use Rattle.tis_grid.specs.Orders.{IsAtRest}
-use Rattle.tis_grid.specs.Choices.{events_towards, events_at, all_events, enabled_events}
+use Rattle.tis_grid.specs.Choices.{events_at, all_events, enabled_events}
 use Rattle.tis_grid.specs.Laws.{EnabledAreListed, RestListsNone}
 use Rattle.tis_grid.proofs.Enabled.{Enables, enabled_parts}
 

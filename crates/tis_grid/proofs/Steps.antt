@@ -7,7 +7,8 @@ use Rattle.tis_asm.specs.PortRuns as port
 use Rattle.tis_grid.specs.declared.event.Event.{Event}
 use Rattle.tis_grid.specs.declared.event.Event.TheVariants.{Local, Meet, In, Out, Push, Pop}
 use Rattle.tis_grid.specs.State.{Grid, IsGrid, State, node_at, stack_at, next_value}
-use Rattle.tis_grid.specs.Events.{program_of, bottom_of, offered, reached, newest, after_event}
+use Rattle.tis_devices.specs.Stack.{newest}
+use Rattle.tis_grid.specs.Events.{program_of, bottom_of, offered, reached, after_event}
 use Rattle.tis_grid.specs.Orders.{Fits}
 use Rattle.tis_grid.specs.TileSteps.{steps_in}
 use Rattle.tis_grid.proofs.Places.{next_differs, some_columns}

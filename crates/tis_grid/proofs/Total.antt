@@ -3,7 +3,7 @@ use Rattle.std.proofs.Common.{◌≡◌, true, false, cond, List, [], ◌∷◌,
 use Rattle.std.specs.Prelude.{Bool, option_and_then}
 use Rattle.tis_grid.specs.declared.event.Event.{Event}
 use Rattle.tis_grid.specs.State.{Grid, State}
-use Rattle.tis_grid.specs.Events.{is_enabled, after_event, step}
+use Rattle.tis_grid.specs.Events.{is_enabled, after_event}
 use Rattle.tis_grid.specs.Orders.{after}
 use Rattle.tis_grid.proofs.Enabled.{Enables, enabled_parts, enabled_from}
 

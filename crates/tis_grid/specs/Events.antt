@@ -1,5 +1,5 @@
 -- What can happen on a grid: when each event is enabled, and what it does.
-use Rattle.std.specs.Prelude.{ℕ, ◌+◌, ◌-◌, ◌*◌, ℤ, pos, Bool, false, ◌&&◌, [], ◌∷◌, ◌++◌, List, length, take, get_or, Option, Some, None, is_some, unwrap_or, option_map, slice_set, slice_index_or, nat_lt, IsTrue, if◌then◌else◌}
+use Rattle.std.specs.Prelude.{ℕ, ◌+◌, ◌-◌, ◌*◌, ℤ, pos, Bool, false, ◌&&◌, [], ◌∷◌, ◌++◌, List, length, get_or, Option, Some, None, is_some, unwrap_or, option_map, slice_set, nat_lt, IsTrue, if◌then◌else◌}
 use Rattle.tis_base.specs.Tiles.{is_compute, is_memory, neighbour_of, opposite}
 use Rattle.tis_base.specs.declared.tiles.Dir.{Dir}
 use Rattle.tis_base.specs.declared.tiles.Dir.TheVariants.{Up, Down}
@@ -7,6 +7,7 @@ use Rattle.tis_base.specs.declared.tiles.TileKind.TheVariants.{Damaged}
 use Rattle.tis_asm.specs.declared.program.MarkedInstr.{MarkedInstr}
 use Rattle.tis_asm.specs.Programs.{program_at}
 use Rattle.tis_asm.specs.Node.{Node, can_local, local_step, wants, take_value, offers, gave}
+use Rattle.tis_devices.specs.Stack.{ROOM, newest, without_newest}
 use Rattle.tis_grid.specs.declared.event.Event.{Event}
 use Rattle.tis_grid.specs.declared.event.Event.TheVariants.{Local, Meet, In, Out, Push, Pop}
 use Rattle.tis_grid.specs.Puzzle.{has_output}
@@ -41,13 +42,9 @@ is_waiting grid state tile dir = is_compute_at grid tile && wants (program_of gr
 abbrev pub is_giving : Grid → State → ℕ → Dir → Bool
 is_giving grid state tile dir = is_compute_at grid tile && is_some (offers (node_at state tile) dir)
 
--- how many values a stack holds at most
-abbrev pub STACK_ROOM : ℕ
-STACK_ROOM = 15
-
 -- whether a stack takes one more value, or has one to give
 abbrev pub has_room : Grid → State → ℕ → Bool
-has_room grid state tile = is_memory_at grid tile && nat_lt (length (stack_at state tile)) STACK_ROOM
+has_room grid state tile = is_memory_at grid tile && nat_lt (length (stack_at state tile)) ROOM
 
 abbrev pub has_value : Grid → State → ℕ → Bool
 has_value grid state tile = is_memory_at grid tile && nat_lt 0 (length (stack_at state tile))
@@ -97,13 +94,6 @@ given grid state tile dir = with_node state tile (gave (program_of grid tile) (n
 
 abbrev pub with_stack : State → ℕ → List ℤ → State
 with_stack state tile values = record state { stacks = slice_set state.stacks tile values }
-
--- the newest value of a stack, and the others
-abbrev pub newest : List ℤ → ℤ
-newest values = slice_index_or values (length values - 1) (pos 0)
-
-abbrev pub without_newest : List ℤ → List ℤ
-without_newest values = take (length values - 1) values
 
 -- the state after an event
 abbrev pub after_event : Grid → State → Event → State

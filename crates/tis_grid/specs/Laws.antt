@@ -8,7 +8,7 @@ use Rattle.tis_base.specs.declared.tiles.Dir.TheVariants.{Up, Down}
 use Rattle.tis_asm.specs.PortRuns.{IsPortRun, after_steps, taken_from, given_to}
 use Rattle.tis_grid.specs.declared.event.Event.{Event}
 use Rattle.tis_grid.specs.State.{Grid, IsGrid, State, node_at, outs, start}
-use Rattle.tis_grid.specs.Events.{program_of, next_tile, bottom_of, IsEnabled, step}
+use Rattle.tis_grid.specs.Events.{program_of, next_tile, bottom_of, IsEnabled}
 use Rattle.tis_grid.specs.Orders.{Fits, after, IsLegal, IsAtRest}
 use Rattle.tis_grid.specs.Choices.{enabled_events}
 use Rattle.tis_grid.specs.Drawn.{drawn}
@@ -63,7 +63,7 @@ EnabledAreListed = (grid : Grid) (state : State) (event : Event) → IsGrid grid
 abbrev pub RestListsNone : Type 0
 RestListsNone = (grid : Grid) (state : State) → IsGrid grid → IsAtRest grid state ↔ (enabled_events grid state ≡ [])
 
--- the order is legal, has no more events than it may, and fewer only where it ends at rest
+-- the order is legal, keeps to the limit, and comes to rest where it stays below it
 pub record IsMaximalWithin (grid : Grid) (state : State) (most : ℕ) (events : List Event) : Type 0 where
   pub legal : IsLegal grid state events
   pub few : length events ≤ most

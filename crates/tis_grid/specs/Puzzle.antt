@@ -1,5 +1,5 @@
 -- Puzzles as contracts see them: records, lists and numbers.
-use Rattle.std.specs.Prelude.{◌≡◌, ◌≢◌, ℕ, ◌<◌, ℤ, Bool, List, [], ◌∷◌, map, All, AllPairs, IsTrue, ◌==◌, if◌then◌else◌}
+use Rattle.std.specs.Prelude.{◌≢◌, ℕ, ◌<◌, ℤ, Bool, List, [], ◌∷◌, map, All, AllPairs, IsTrue, ◌==◌, if◌then◌else◌}
 use Rattle.std.specs.List.{list_any}
 use Rattle.tis_base.specs.Saturation.{IsValue}
 use Rattle.tis_base.specs.Tiles.{Tiles, AreTiles}
@@ -19,11 +19,13 @@ pub record Output : Type 0 where
   pub kind : OutKind
   pub expected : List ℤ
 
+-- the tiles of a grid, and what comes in at its top and is wanted at its bottom
 pub record Puzzle : Type 0 where
   pub tiles : Tiles
   pub inputs : List Input
   pub outputs : List Output
 
+-- an input and an output as they are held
 abbrev pub input_of : InputAt → Input
 input_of i = record { position = i.position; values = i.values.items }
 
@@ -34,7 +36,7 @@ output_of o = record { position = o.position; kind = o.kind; expected = o.expect
 abbrev pub puzzle_of : declared.Puzzle → Puzzle
 puzzle_of p = record { tiles = p.tiles; inputs = map input_of p.inputs.items; outputs = map output_of p.outputs.items }
 
--- the positions are below the columns and distinct on each side, and the values are values of the machine
+-- each port stands at a column, no two inputs and no two outputs at the same one, and what comes in are values of the machine; what is wanted may be anything
 pub record IsPuzzle (puzzle : Puzzle) : Type 0 where
   pub tiles : AreTiles puzzle.tiles.shape puzzle.tiles.kinds
   pub inputs_below : All (λ input. input.position < puzzle.tiles.shape.columns) puzzle.inputs
@@ -56,5 +58,6 @@ has_input inputs position = list_any (λ input. input.position == position) inpu
 abbrev pub has_output : List Output → ℕ → Bool
 has_output outputs position = list_any (λ output. output.position == position) outputs
 
+-- an output stands at this position
 abbrev pub HasOutput : List Output → ℕ → Type 0
 HasOutput outputs position = IsTrue (has_output outputs position)

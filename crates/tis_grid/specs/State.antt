@@ -59,7 +59,7 @@ whole_input puzzle position = if has_input puzzle.inputs position then Some (len
 abbrev pub empty_output : Puzzle → ℕ → Option (List ℤ)
 empty_output puzzle position = if has_output puzzle.outputs position then Some [] else None
 
--- the state in which each node is fresh, stacks and outputs are empty, and inputs are whole
+-- before any event: no node has done anything, no stack and no output holds a value, and nothing was taken from an input
 abbrev pub start : Grid → State
 start grid =
     record {

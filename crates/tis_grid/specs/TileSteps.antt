@@ -8,7 +8,8 @@ use Rattle.tis_grid.specs.declared.event.Event.{Event}
 use Rattle.tis_grid.specs.declared.event.Event.TheVariants.{Local, Meet, In, Out, Push, Pop}
 use Rattle.tis_grid.specs.Puzzle.{values_at}
 use Rattle.tis_grid.specs.State.{Grid, State, stack_at, left_at, next_value}
-use Rattle.tis_grid.specs.Events.{bottom_of, reached, offered, newest, after_event}
+use Rattle.tis_devices.specs.Stack.{newest}
+use Rattle.tis_grid.specs.Events.{bottom_of, reached, offered, after_event}
 
 -- the step, where it is one of this tile
 abbrev pub step_at : ℕ → ℕ → Step → List Step

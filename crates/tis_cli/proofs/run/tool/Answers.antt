@@ -1,6 +1,3 @@
-use Rattle.std.proofs.Common.{◌≡◌, List, ℕ, Some}
-use Rattle.tis_cli.specs.declared.status.Status.TheVariants.{Words}
-use Rattle.tis_cli.specs.Outcomes.{words_of}
 use Rattle.tis_cli.proofs.Statuses.{explained_at, never_words, never_sink_fault, some_command, missing_only, missing_where, answered, complete}
 use Rattle.tis_cli.proofs.run.tool.Goals as goal
 
