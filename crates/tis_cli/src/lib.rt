@@ -1,4 +1,37 @@
 //! The one call that does all that the program does.
+//!
+//! # What it is for
+//!
+//! [`tool`] takes the words of a command, a store and a sink, does what the words say, and answers a
+//! [`Status`]. The program hands it real files and standard output; a test hands it those in memory.
+//! [`describe`] gives the line that says why, and `Status::number` the number that the program ends with.
+//!
+//! # What the layer above uses
+//!
+//! The clauses of `tool`: each answer has its cause, nothing but what the command keeps or puts has changed,
+//! and where `compile` is done, its save is read back to programs that follow the network in every order.
+//! `docs/promises.md` has them in plain words. Below it, `specs/Commands.antt` says of each command what it
+//! fetches, where what it makes goes, what it comes to, and what is promised; `specs/Outcomes.antt` says what each
+//! status means, for any command.
+//!
+//! # An example
+//!
+//! ```text
+//! let mut store = MemStore::honest(alloc);
+//! store.set("a.net", text)?;
+//! let mut out = MemSink::honest(alloc);
+//! let status = tool(alloc, &words, &mut store, &mut out);     // the words compile, a.net and a.save
+//! assert_eq!(status, Status::Done);
+//! ```
+//!
+//! # What it costs
+//!
+//! A `compile` goes over its text from left to right once, and holds the text, the network, its programs and
+//! the save in memory.
+//!
+//! # What it doesn't do
+//!
+//! It opens no file and prints nothing by itself: the store and the sink do.
 #![tactic(auto)]
 
 mod command;
