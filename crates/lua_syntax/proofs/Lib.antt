@@ -5,4 +5,5 @@ pub mod Stepping
 pub mod Places
 pub mod Wholes
 pub mod Examples
+pub mod Completing
 pub mod Refusing

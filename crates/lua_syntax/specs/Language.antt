@@ -44,12 +44,19 @@ pub data Derives : List Symbol → Building → List Token → Type 0 where
 abbrev pub IsChunk : List Token → Type 0
 IsChunk tokens = Derives (s.Chunk ∷ []) nothing_read tokens
 
--- the line is that of a token of the text behind which nothing can come that makes a chunk. This doesn't say that it is the
--- first such token: that some chunk begins with what stands before it is seen by reading the table and in tests
-abbrev pub GoesWrongAt : List Token → ℕ → Type 0
-GoesWrongAt tokens line = (before : List Token) × (token : Token) × (behind : List Token) ×
-    (tokens ≡ before ++ token ∷ behind) × (token.line ≡ line) × ((more : List Token) → IsChunk (before ++ token ∷ more) → ⊥)
+-- some tokens behind these make them a chunk. They are any tokens, also some that no text has; for each of these there is one
+-- of the same kind that a text has
+abbrev pub GoesOn : List Token → Type 0
+GoesOn tokens = (more : List Token) × IsChunk (tokens ++ more)
 
--- Syntax names a token of the text with which no chunk goes on
+-- this is the first token with which no chunk goes on. It is the end of the text where the text ends too early
+pub record IsFirstWrong (tokens : List Token) (wrong : Token) : Type 0 where
+  pub before : List Token
+  pub behind : List Token
+  pub split : tokens ≡ before ++ wrong ∷ behind
+  pub goes_on : GoesOn before
+  pub stops : ¬ GoesOn (before ++ wrong ∷ [])
+
+-- Syntax names the first token of the text with which no chunk goes on; the end of the text stands on the last line
 abbrev pub SyntaxIsWrong : Type 0
-SyntaxIsWrong = (text : List ℕ) (line : ℕ) → tree_of text ≡ Err (Syntax line) → GoesWrongAt (tokens text) line
+SyntaxIsWrong = (text : List ℕ) (line : ℕ) → tree_of text ≡ Err (Syntax line) → (wrong : Token) × (line ≡ wrong.line) × IsFirstWrong (tokens text) wrong

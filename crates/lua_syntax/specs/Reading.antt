@@ -1,6 +1,6 @@
 -- How a text is read. Between two tokens a stack of symbols says what is still to come, the top first. Before a token
--- the symbol on top takes it, or ends, or begins an operand with it, or refuses it. A token that is refused can't be
--- followed by anything that makes the text a chunk (`Language.antt`).
+-- the symbol on top takes it, or ends, or begins an operand with it, or refuses it. A token that is refused is
+-- the first with which no chunk goes on (`Language.antt`).
 use Rattle.std.specs.Prelude.{ℕ, ◌+◌, if◌then◌else◌, nat_lt, List, [], ◌∷◌, ◌++◌, Result, Ok, Err}
 use Rattle.lua_syntax.specs.declared.tree.Item.{Item}
 use Rattle.lua_syntax.specs.declared.kind.Kind.{Kind}
