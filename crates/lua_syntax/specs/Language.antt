@@ -6,7 +6,7 @@ use Rattle.lua_syntax.specs.declared.symbol.Symbol.{Symbol}
 use Rattle.lua_syntax.specs.declared.symbol.Row.TheVariants.{Takes, Opens, Begins, Passes}
 use Rattle.lua_syntax.specs.declared.building.Building.{Building}
 use Rattle.lua_syntax.specs.declared.piece.Token.{Token}
-use Rattle.lua_syntax.specs.declared.error.LuaSyntax.TheVariants.{Syntax}
+use Rattle.lua_syntax.specs.Refusal.{Syntax}
 use Rattle.lua_syntax.specs.Grammar.{row, operand_row}
 use Rattle.lua_syntax.specs.Building.{act, nothing_read}
 use Rattle.lua_syntax.specs.Tokens.{tokens}

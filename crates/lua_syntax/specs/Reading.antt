@@ -12,8 +12,7 @@ use Rattle.lua_syntax.specs.declared.symbol.Row.{Row}
 use Rattle.lua_syntax.specs.declared.symbol.Row.TheVariants.{Takes, Opens, Begins, Passes, Refuses}
 use Rattle.lua_syntax.specs.declared.building.Building.{Building}
 use Rattle.lua_syntax.specs.declared.piece.Token.{Token}
-use Rattle.lua_syntax.specs.declared.error.LuaSyntax.{LuaSyntax}
-use Rattle.lua_syntax.specs.declared.error.LuaSyntax.TheVariants.{Syntax, TooDeep}
+use Rattle.lua_syntax.specs.Refusal.{LuaRefusal, Syntax, TooDeep}
 use Rattle.lua_syntax.specs.Grammar.{row, operand_row, most_open}
 use Rattle.lua_syntax.specs.Building.{act, nothing_read}
 use Rattle.lua_syntax.specs.Tokens.{tokens}
@@ -70,16 +69,16 @@ step (symbol ∷ stack) token parts =
     by_row (row symbol parts.opened token.kind token.line) (λ action. step stack token (act action parts)) stack token parts
 
 -- what a step gives, where `behind` is what the further tokens give
-abbrev pub by_step : Step → (Reading → Result (List Item) LuaSyntax) → ℕ → Result (List Item) LuaSyntax
+abbrev pub by_step : Step → (Reading → Result (List Item) LuaRefusal) → ℕ → Result (List Item) LuaRefusal
 by_step (Goes reading) behind line = behind reading
 by_step Wrong behind line = Err (Syntax line)
 by_step Deep behind line = Err (TooDeep line)
 
 -- the items that the tokens give, or the first refusal. The last token of a text is its end, which the chunk alone takes: behind it nothing is still to come
-unfoldable pub run : Reading → List Token → Result (List Item) LuaSyntax
+unfoldable pub run : Reading → List Token → Result (List Item) LuaRefusal
 run reading [] = Ok reading.parts.items
 run reading (token ∷ tokens) = by_step (step reading.stack token reading.parts) (λ next. run next tokens) token.line
 
 -- the tree of a text, or what is wrong with it
-unfoldable pub tree_of : List ℕ → Result (List Item) LuaSyntax
+unfoldable pub tree_of : List ℕ → Result (List Item) LuaRefusal
 tree_of text = run (record { stack = s.Chunk ∷ []; parts = nothing_read }) (tokens text)
