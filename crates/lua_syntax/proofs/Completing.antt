@@ -160,11 +160,16 @@ add (s.Make action) stack b = make_on action stack b
 
 -- ---- stacks that are reached
 
--- nothing is left to come, or the chunk is the last
+-- whether a symbol is a part of a chunk
+abbrev pub is_part : Symbol → Bool
+is_part s.Chunk = false
+is_part _ = true
+
+-- nothing is left to come; or the chunk is the last, and parts stand before it
 abbrev pub EndsInChunk : List Symbol → Type 0
 EndsInChunk [] = Unit {0}
 EndsInChunk (symbol ∷ []) = symbol ≡ s.Chunk
-EndsInChunk (symbol ∷ next ∷ stack) = EndsInChunk (next ∷ stack)
+EndsInChunk (symbol ∷ next ∷ stack) = (is_part symbol ≡ true) × EndsInChunk (next ∷ stack)
 
 chunk_alone : Completes (s.Chunk ∷ [])
 unfolding row
@@ -172,16 +177,9 @@ chunk_alone = λ parts. (a_token k.EndOfText, [], (λ l n. refl, λ l n. refl, �
 
 completes : (symbol : Symbol) (stack : List Symbol) → EndsInChunk (symbol ∷ stack) → Completes (symbol ∷ stack)
 completes symbol [] fine = subst (λ (first : Symbol). Completes (first ∷ [])) (sym fine) chunk_alone
-completes symbol (next ∷ stack) fine = add symbol (next ∷ stack) (completes next stack fine)
+completes symbol (next ∷ stack) fine = add symbol (next ∷ stack) (completes next stack fine.1)
 
 -- some tokens complete each stack that is reached
 pub completed : (stack : List Symbol) (parts : Building) → EndsInChunk stack → (more : List Token) × Derives stack parts more
 completed [] parts fine = ([], nothing parts)
 completed (symbol ∷ stack) parts fine = let c = completes symbol stack fine parts in (c.0 ∷ c.1, c.3)
-
--- ---- what keeps stacks so
-
-pub ends_above : (body : List Symbol) (symbol : Symbol) (stack : List Symbol) → EndsInChunk (symbol ∷ stack) → EndsInChunk (body ++ symbol ∷ stack)
-ends_above [] symbol stack fine = fine
-ends_above (first ∷ []) symbol stack fine = fine
-ends_above (first ∷ second ∷ body) symbol stack fine = ends_above (second ∷ body) symbol stack fine

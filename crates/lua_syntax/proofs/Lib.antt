@@ -6,4 +6,5 @@ pub mod Places
 pub mod Wholes
 pub mod Examples
 pub mod Completing
+pub mod Stacking
 pub mod Refusing

@@ -17,7 +17,8 @@ use Rattle.lua_syntax.specs.Building.{act, nothing_read}
 use Rattle.lua_syntax.specs.Tokens.{tokens}
 use Rattle.lua_syntax.specs.Reading.{Reading, Step, Goes, Wrong, Deep, keeps_text, taken, opened, begun_by, by_row, step, by_step, run, tree_of}
 use Rattle.lua_syntax.specs.Language.{Derives, takes, opens, begins, begins_open, ends, with_one_more, IsChunk, IsFirstWrong}
-use Rattle.lua_syntax.proofs.Completing.{EndsInChunk, completed, ends_above}
+use Rattle.lua_syntax.proofs.Completing.{EndsInChunk, completed}
+use Rattle.lua_syntax.proofs.Stacking.{KeepsEnd, keeps_end}
 use Rattle.lua_syntax.proofs.Stepping.{step_takes, step_opens, step_begins, step_passes}
 
 -- what a step leaves derives the rest; a step that is refused leaves nothing to derive
@@ -84,51 +85,6 @@ pub precedes : (stack : List Symbol) (parts : Building) (token : Token) (more : 
 unfolding step
 precedes [] parts token more = tt
 precedes (symbol ∷ stack) parts token more = row_precedes symbol stack parts token more (λ action. precedes stack (act action parts) token more) (row symbol parts.opened token.kind token.line) refl
-
--- ---- each stack that is reached can be completed
-
--- where a step goes on, it leaves a stack that can be completed
-abbrev pub KeepsEnd : Step → Type 0
-KeepsEnd (Goes next) = EndsInChunk next.stack
-KeepsEnd Wrong = Unit {0}
-KeepsEnd Deep = Unit {0}
-
-opened_keeps : (body : List Symbol) (token : Token) (parts : Building) → EndsInChunk body → KeepsEnd (opened body token parts)
-opened_keeps body token parts fine =
-    elim (nat_lt parts.opened most_open) as (λ (t : Bool). KeepsEnd (if t then taken body token (with_one_more parts) else Deep)) [ true ↦ fine | false ↦ tt ]
-
-begun_keeps : (r : Row) (stack : List Symbol) (token : Token) (parts : Building) → ((body : List Symbol) → EndsInChunk (body ++ stack)) → KeepsEnd (begun_by r stack token parts)
-begun_keeps (Takes body) stack token parts fine = fine body
-begun_keeps (Opens body) stack token parts fine = opened_keeps (body ++ stack) token parts (fine body)
-begun_keeps (Begins body) stack token parts fine = tt
-begun_keeps (Passes action) stack token parts fine = tt
-begun_keeps Refuses stack token parts fine = tt
-
-row_keeps : (r : Row) (next : Symbol) (stack : List Symbol) (token : Token) (parts : Building) → EndsInChunk (next ∷ stack) →
-    ((action : Action) → KeepsEnd (step (next ∷ stack) token (act action parts))) →
-    KeepsEnd (by_row r (λ (action : Action). step (next ∷ stack) token (act action parts)) (next ∷ stack) token parts)
-row_keeps (Takes body) next stack token parts fine known = ends_above body next stack fine
-row_keeps (Opens body) next stack token parts fine known = opened_keeps (body ++ next ∷ stack) token parts (ends_above body next stack fine)
-row_keeps (Begins behind) next stack token parts fine known =
-    begun_keeps (operand_row parts.opened token.kind token.line) (behind ++ next ∷ stack) token parts
-    (λ body. subst EndsInChunk (append_assoc body behind (next ∷ stack)) (ends_above (body ++ behind) next stack fine))
-row_keeps (Passes action) next stack token parts fine known = known action
-row_keeps Refuses next stack token parts fine known = tt
-
--- the row of the chunk, under which nothing stands
-chunk_keeps : (kind : Kind) (line : ℕ) (text : List ℕ) (parts : Building) → KeepsEnd (step (s.Chunk ∷ []) (record { kind = kind; line = line; text = text }) parts)
-unfolding step row
-chunk_keeps k.Function line text parts = refl
-chunk_keeps (k.Name role) line text parts = refl
-chunk_keeps k.EndOfText line text parts = tt
-chunk_keeps _ line text parts = tt
-
-pub keeps_end : (stack : List Symbol) (token : Token) (parts : Building) → EndsInChunk stack → KeepsEnd (step stack token parts)
-unfolding step
-keeps_end [] token parts fine = tt
-keeps_end (symbol ∷ []) token parts fine = subst (λ (first : Symbol). KeepsEnd (step (first ∷ []) token parts)) (sym fine) (chunk_keeps token.kind token.line token.text parts)
-keeps_end (symbol ∷ next ∷ stack) token parts fine =
-    row_keeps (row symbol parts.opened token.kind token.line) next stack token parts fine (λ action. keeps_end (next ∷ stack) token (act action parts) fine)
 
 -- ---- where reading goes wrong
 
