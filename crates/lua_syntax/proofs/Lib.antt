@@ -8,3 +8,4 @@ pub mod Examples
 pub mod Completing
 pub mod Stacking
 pub mod Refusing
+pub mod Answering

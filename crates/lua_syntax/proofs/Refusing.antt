@@ -1,9 +1,8 @@
 -- What is derived follows the steps, and each stack that is reached can be completed. So a token that a step refuses is the
 -- first with which no chunk goes on.
-use Rattle.std.proofs.Common.{◌≡◌, ℕ, Bool, true, false, List, [], ◌∷◌, ◌++◌, refl, ap, ◌∙◌, sym, subst, append_assoc, Err}
+use Rattle.std.proofs.Common.{◌≡◌, ℕ, Bool, true, false, List, [], ◌∷◌, ◌++◌, refl, ap, ◌∙◌, sym, subst, Err}
 use Rattle.std.specs.Prelude.{if◌then◌else◌, nat_lt}
 use Rattle.lua_syntax.specs.declared.symbol.Symbol.{Symbol}
-use Rattle.lua_syntax.specs.declared.symbol.Symbol.TheVariants as s
 use Rattle.lua_syntax.specs.declared.kind.Kind.{Kind}
 use Rattle.lua_syntax.specs.declared.kind.Kind.TheVariants as k
 use Rattle.lua_syntax.specs.declared.symbol.Action.{Action}
@@ -13,10 +12,9 @@ use Rattle.lua_syntax.specs.declared.building.Building.{Building}
 use Rattle.lua_syntax.specs.declared.piece.Token.{Token}
 use Rattle.lua_syntax.specs.Refusal.{Syntax}
 use Rattle.lua_syntax.specs.Grammar.{row, operand_row, most_open}
-use Rattle.lua_syntax.specs.Building.{act, nothing_read}
-use Rattle.lua_syntax.specs.Tokens.{tokens}
-use Rattle.lua_syntax.specs.Reading.{Reading, Step, Goes, Wrong, Deep, keeps_text, taken, opened, begun_by, by_row, step, by_step, run, tree_of}
-use Rattle.lua_syntax.specs.Language.{Derives, takes, opens, begins, begins_open, ends, with_one_more, IsChunk, IsFirstWrong}
+use Rattle.lua_syntax.specs.Building.{act}
+use Rattle.lua_syntax.specs.Reading.{Reading, Step, Goes, Wrong, Deep, keeps_text, taken, opened, begun_by, by_row, step, by_step, run}
+use Rattle.lua_syntax.specs.Language.{Derives, takes, opens, begins, begins_open, ends, with_one_more}
 use Rattle.lua_syntax.proofs.Completing.{EndsInChunk, completed}
 use Rattle.lua_syntax.proofs.Stacking.{KeepsEnd, keeps_end}
 use Rattle.lua_syntax.proofs.Stepping.{step_takes, step_opens, step_begins, step_passes}
@@ -134,16 +132,3 @@ unfolding run
 goes_wrong [] reading line fine is = absurd (cc)
 goes_wrong (token ∷ tokens) reading line fine is =
     by_its_step tokens reading token line fine (λ (next : Reading). goes_wrong tokens next line) (step reading.stack token reading.parts) refl is
-
-pub syntax_is_wrong : (text : List ℕ) (line : ℕ) → tree_of text ≡ Err (Syntax line) → (wrong : Token) × (line ≡ wrong.line) × IsFirstWrong (tokens text) wrong
-unfolding tree_of
-syntax_is_wrong text line is =
-    let from = goes_wrong (tokens text) (record { stack = s.Chunk ∷ []; parts = nothing_read }) line refl is in
-    let wrong = from.2 in
-    (from.0, from.1, record {
-      before = wrong.before;
-      behind = wrong.behind;
-      split = wrong.split;
-      goes_on = (wrong.more, wrong.goes_on);
-      stops = λ more. wrong.stops more.0 (subst (λ (all : List Token). IsChunk all) (append_assoc wrong.before (from.0 ∷ []) more.0) more.1);
-    })

@@ -24,12 +24,12 @@ use Rattle.lua_syntax.specs.Reading.{Step, Goes, Wrong, Deep, taken, opened, beg
 use Rattle.lua_syntax.proofs.Completing.{is_part, EndsInChunk}
 
 -- whether all are parts of a chunk
-abbrev are_parts : List Symbol → Bool
+abbrev pub are_parts : List Symbol → Bool
 are_parts [] = true
 are_parts (symbol ∷ symbols) = is_part symbol && are_parts symbols
 
 -- whether a row leaves only parts of a chunk
-abbrev leaves_parts : Row → Bool
+abbrev pub leaves_parts : Row → Bool
 leaves_parts (Takes body) = are_parts body
 leaves_parts (Opens body) = are_parts body
 leaves_parts (Begins body) = are_parts body
@@ -72,7 +72,7 @@ entry_member_parts Plain line = refl
 entry_member_parts Math line = refl
 entry_member_parts Table line = refl
 
-row_parts : (symbol : Symbol) (opened : ℕ) (kind : Kind) (line : ℕ) → is_part symbol ≡ true → leaves_parts (row symbol opened kind line) ≡ true
+pub row_parts : (symbol : Symbol) (opened : ℕ) (kind : Kind) (line : ℕ) → is_part symbol ≡ true → leaves_parts (row symbol opened kind line) ≡ true
 unfolding row
 row_parts s.Chunk opened kind line part = absurd (cc)
 row_parts (s.Token mark) opened kind line part = mark_parts (grammar.is_mark mark kind)
@@ -130,7 +130,7 @@ row_parts (s.EntryName role name_line) opened k.Dot line part = entry_member_par
 row_parts (s.EntryName role name_line) opened _ line part = refl
 row_parts (s.Make action) opened kind line part = refl
 
-operand_parts : (opened : ℕ) (kind : Kind) (line : ℕ) → leaves_parts (operand_row opened kind line) ≡ true
+pub operand_parts : (opened : ℕ) (kind : Kind) (line : ℕ) → leaves_parts (operand_row opened kind line) ≡ true
 operand_parts opened k.Nil line = refl
 operand_parts opened _ line = refl
 
@@ -146,7 +146,7 @@ both : (a b : Bool) → a && b ≡ true → (a ≡ true) × (b ≡ true)
 both true b is = (refl, is)
 both false b is = absurd (cc)
 
-ends_above : (body : List Symbol) (symbol : Symbol) (stack : List Symbol) → are_parts body ≡ true → EndsInChunk (symbol ∷ stack) → EndsInChunk (body ++ symbol ∷ stack)
+pub ends_above : (body : List Symbol) (symbol : Symbol) (stack : List Symbol) → are_parts body ≡ true → EndsInChunk (symbol ∷ stack) → EndsInChunk (body ++ symbol ∷ stack)
 ends_above [] symbol stack parts fine = fine
 ends_above (first ∷ []) symbol stack parts fine = ((both (is_part first) true parts).0, fine)
 ends_above (first ∷ second ∷ body) symbol stack parts fine =
@@ -163,7 +163,7 @@ parts_behind (first ∷ body) behind parts more =
     let split = both (is_part first) (are_parts body) parts in
     ap (λ (t : Bool). t && are_parts (body ++ behind)) split.0 ∙ parts_behind body behind split.1 more
 
-above_both : (body behind : List Symbol) (next : Symbol) (stack : List Symbol) → are_parts body ≡ true → are_parts behind ≡ true → EndsInChunk (next ∷ stack) →
+pub above_both : (body behind : List Symbol) (next : Symbol) (stack : List Symbol) → are_parts body ≡ true → are_parts behind ≡ true → EndsInChunk (next ∷ stack) →
     EndsInChunk (body ++ (behind ++ next ∷ stack))
 above_both body behind next stack parts more fine = subst EndsInChunk (append_assoc body behind (next ∷ stack)) (ends_above (body ++ behind) next stack (parts_behind body behind parts more) fine)
 
