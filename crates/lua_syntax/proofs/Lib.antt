@@ -5,4 +5,7 @@ pub mod Stepping
 pub mod Places
 pub mod Wholes
 pub mod Examples
+pub mod Completing
+pub mod Stacking
 pub mod Refusing
+pub mod Answering

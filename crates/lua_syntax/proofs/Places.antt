@@ -1,5 +1,5 @@
 -- Tokens from a place on.
-use Rattle.std.proofs.Common.{◌≡◌, ℕ, zero, suc, ◌+◌, ◌-◌, ◌<◌, ◌≤◌, Bool, true, false, cond, List, [], ◌∷◌, ◌++◌, length, take, drop, refl, ap, ◌∙◌, sym, arith}
+use Rattle.std.proofs.Common.{◌≡◌, ℕ, zero, suc, ◌+◌, ◌-◌, ◌<◌, ◌≤◌, Bool, true, false, cond, List, [], ◌∷◌, ◌++◌, length, take, drop, refl, ap, subst, ◌∙◌, sym, arith}
 use Rattle.std.specs.Prelude.{if◌then◌else◌, ◌==◌}
 use Rattle.std.proofs.lemmas.Grind.{common_steps}
 use Rattle.std.proofs.lemmas.List.{drop-drop}
@@ -11,6 +11,7 @@ use Rattle.lua_syntax.specs.declared.symbol.Symbol.{Symbol}
 use Rattle.lua_syntax.specs.declared.error.LuaSyntax.{LuaSyntax}
 use Rattle.lua_syntax.specs.Tokens.{piece, cut, line_ends, onto_tokens, is_blank}
 use Rattle.lua_syntax.specs.Reading.{run}
+use Rattle.lua_syntax.specs.Refusal.{IsRefused}
 use Rattle.lua_syntax.specs.Steps.{LeadsTo, FailsAt, AllLeadTo, AllFailAt}
 
 stepped : (t : Bool) (before more : ℕ) → (if t then suc before else before) + more ≡ before + (cond t 1 0 + more)
@@ -70,6 +71,6 @@ reaches_on stack parts text at passed s b p new_stack new_parts within is moves 
 pub reaches_fails : (stack : List Symbol) (parts : Building) (text : List ℕ) (at passed : ℕ) (s : List Symbol) (b : Building) (p : Piece) (e : LuaSyntax) →
     at < length text → p ≡ piece (drop at text) → 1 ≤ p.len → Reaches stack parts text at passed s b → FailsAt s b p (passed + 1) e →
     AllFailAt stack parts text e
-reaches_fails stack parts text at passed s b p e within is moves reaches fails other more =
-    reaches more ∙ ap (run (record { stack = s; parts = b })) (split_here text at passed p more within is moves)
-    ∙ fails other (cut 0 (passed + line_ends (take p.len (drop at text))) (drop (at + p.len) text) ++ more)
+reaches_fails stack parts text at passed s b p e within is moves reaches fails more =
+    subst (IsRefused e) (sym (reaches more ∙ ap (run (record { stack = s; parts = b })) (split_here text at passed p more within is moves)))
+    (fails (cut 0 (passed + line_ends (take p.len (drop at text))) (drop (at + p.len) text) ++ more))

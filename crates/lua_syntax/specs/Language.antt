@@ -1,12 +1,13 @@
 -- The language of the table, without a bound on how deep it nests: which tokens a stack of symbols derives. The count of
 -- what is open is carried along since symbols keep it, and nothing is refused for it.
-use Rattle.std.specs.Prelude.{◌≡◌, ℕ, ◌+◌, List, [], ◌∷◌, ◌++◌, Err}
+use Rattle.std.specs.Prelude.{◌≡◌, ℕ, ◌+◌, List, [], ◌∷◌, ◌++◌, Result, Ok, Err}
 use Rattle.lua_syntax.specs.declared.symbol.Action.{Action}
 use Rattle.lua_syntax.specs.declared.symbol.Symbol.{Symbol}
 use Rattle.lua_syntax.specs.declared.symbol.Row.TheVariants.{Takes, Opens, Begins, Passes}
 use Rattle.lua_syntax.specs.declared.building.Building.{Building}
 use Rattle.lua_syntax.specs.declared.piece.Token.{Token}
-use Rattle.lua_syntax.specs.declared.error.LuaSyntax.TheVariants.{Syntax}
+use Rattle.lua_syntax.specs.declared.tree.Item.{Item}
+use Rattle.lua_syntax.specs.Refusal.{LuaRefusal, Syntax, TooDeep}
 use Rattle.lua_syntax.specs.Grammar.{row, operand_row}
 use Rattle.lua_syntax.specs.Building.{act, nothing_read}
 use Rattle.lua_syntax.specs.Tokens.{tokens}
@@ -44,12 +45,33 @@ pub data Derives : List Symbol → Building → List Token → Type 0 where
 abbrev pub IsChunk : List Token → Type 0
 IsChunk tokens = Derives (s.Chunk ∷ []) nothing_read tokens
 
--- the line is that of a token of the text behind which nothing can come that makes a chunk. This doesn't say that it is the
--- first such token: that some chunk begins with what stands before it is seen by reading the table and in tests
-abbrev pub GoesWrongAt : List Token → ℕ → Type 0
-GoesWrongAt tokens line = (before : List Token) × (token : Token) × (behind : List Token) ×
-    (tokens ≡ before ++ token ∷ behind) × (token.line ≡ line) × ((more : List Token) → IsChunk (before ++ token ∷ more) → ⊥)
+-- some tokens behind these make them a chunk. They are any tokens, also some that no text has; for each of these there is one
+-- of the same kind that a text has
+abbrev pub GoesOn : List Token → Type 0
+GoesOn tokens = (more : List Token) × IsChunk (tokens ++ more)
 
--- Syntax names a token of the text with which no chunk goes on
-abbrev pub SyntaxIsWrong : Type 0
-SyntaxIsWrong = (text : List ℕ) (line : ℕ) → tree_of text ≡ Err (Syntax line) → GoesWrongAt (tokens text) line
+-- this is the first token with which no chunk goes on. It is the end of the text where the text ends too early
+pub record IsFirstWrong (tokens : List Token) (wrong : Token) : Type 0 where
+  pub before : List Token
+  pub behind : List Token
+  pub split : tokens ≡ before ++ wrong ∷ behind
+  pub goes_on : GoesOn before
+  pub stops : ¬ GoesOn (before ++ wrong ∷ [])
+
+-- some chunk goes on with this token, and so none of these tokens up to it is wrong
+pub record GoesOnWith (tokens : List Token) (token : Token) : Type 0 where
+  pub before : List Token
+  pub behind : List Token
+  pub split : tokens ≡ before ++ token ∷ behind
+  pub goes_on : GoesOn (before ++ token ∷ [])
+
+-- what these tokens give: they are a chunk; or the line is that of the first token with which no chunk goes on; or it is that
+-- of a token that is too deep, with which some chunk goes on
+abbrev pub IsAnswer : List Token → Result (List Item) LuaRefusal → Type 0
+IsAnswer tokens (Ok items) = IsChunk tokens
+IsAnswer tokens (Err (Syntax line)) = (wrong : Token) × (line ≡ wrong.line) × IsFirstWrong tokens wrong
+IsAnswer tokens (Err (TooDeep line)) = (deep : Token) × (line ≡ deep.line) × GoesOnWith tokens deep
+
+-- each text is answered so; the end of the text is a token on the last line
+abbrev pub TextsAnswer : Type 0
+TextsAnswer = (text : List ℕ) → IsAnswer (tokens text) (tree_of text)

@@ -1,5 +1,6 @@
 pub mod Stacks
 pub mod Grammar
+pub mod Refusal
 pub mod Building
 pub mod Tokens
 pub mod Reading

@@ -5,7 +5,7 @@ use Rattle.lua_syntax.specs.declared.tree.Expr.{Expr, Nil, True, False, Number, 
 use Rattle.lua_syntax.specs.declared.tree.Entry.{Entry, Value, Named, Keyed}
 use Rattle.lua_syntax.specs.declared.tree.LuaStatement.{LuaStatement, Local, Assign, SetIndex, SetMember, Call, If', While', Repeat', For', Do', Break, Return, Row_of-LuaStatement, end_of-LuaStatement, more_of-LuaStatement, Row_of-Arm, end_of-Arm, more_of-Arm, Held-LuaStatement-If-1, None', Some'}
 use Rattle.lua_syntax.specs.declared.tree.LuaBlock.{out-LuaBlock}
-use Rattle.lua_syntax.specs.declared.error.LuaSyntax.{LuaSyntax}
+use Rattle.lua_syntax.specs.Refusal.{LuaRefusal}
 use Rattle.lua_syntax.specs.declared.tree.Item.{Item}
 use Rattle.lua_syntax.specs.declared.tree.Item.TheVariants as item
 use Rattle.lua_syntax.specs.declared.tree.UnaryOp.{UnaryOp}
@@ -135,6 +135,6 @@ plain_items [] = Empty
 plain_items (item ∷ items) = Pair (plain_item item) (plain_items items)
 
 -- what a text gives, as plain data
-abbrev pub plain_answer : Result (List Item) LuaSyntax → Result Plain LuaSyntax
+abbrev pub plain_answer : Result (List Item) LuaRefusal → Result Plain LuaRefusal
 plain_answer (Ok items) = Ok (plain_items items)
 plain_answer (Err e) = Err e

@@ -1,6 +1,6 @@
 -- How a text is read. Between two tokens a stack of symbols says what is still to come, the top first. Before a token
--- the symbol on top takes it, or ends, or begins an operand with it, or refuses it. A token that is refused can't be
--- followed by anything that makes the text a chunk (`Language.antt`).
+-- the symbol on top takes it, or ends, or begins an operand with it, or refuses it. A token that is refused is
+-- the first with which no chunk goes on (`Language.antt`).
 use Rattle.std.specs.Prelude.{ℕ, ◌+◌, if◌then◌else◌, nat_lt, List, [], ◌∷◌, ◌++◌, Result, Ok, Err}
 use Rattle.lua_syntax.specs.declared.tree.Item.{Item}
 use Rattle.lua_syntax.specs.declared.kind.Kind.{Kind}
@@ -12,8 +12,7 @@ use Rattle.lua_syntax.specs.declared.symbol.Row.{Row}
 use Rattle.lua_syntax.specs.declared.symbol.Row.TheVariants.{Takes, Opens, Begins, Passes, Refuses}
 use Rattle.lua_syntax.specs.declared.building.Building.{Building}
 use Rattle.lua_syntax.specs.declared.piece.Token.{Token}
-use Rattle.lua_syntax.specs.declared.error.LuaSyntax.{LuaSyntax}
-use Rattle.lua_syntax.specs.declared.error.LuaSyntax.TheVariants.{Syntax, TooDeep}
+use Rattle.lua_syntax.specs.Refusal.{LuaRefusal, Syntax, TooDeep}
 use Rattle.lua_syntax.specs.Grammar.{row, operand_row, most_open}
 use Rattle.lua_syntax.specs.Building.{act, nothing_read}
 use Rattle.lua_syntax.specs.Tokens.{tokens}
@@ -70,16 +69,16 @@ step (symbol ∷ stack) token parts =
     by_row (row symbol parts.opened token.kind token.line) (λ action. step stack token (act action parts)) stack token parts
 
 -- what a step gives, where `behind` is what the further tokens give
-abbrev pub by_step : Step → (Reading → Result (List Item) LuaSyntax) → ℕ → Result (List Item) LuaSyntax
+abbrev pub by_step : Step → (Reading → Result (List Item) LuaRefusal) → ℕ → Result (List Item) LuaRefusal
 by_step (Goes reading) behind line = behind reading
 by_step Wrong behind line = Err (Syntax line)
 by_step Deep behind line = Err (TooDeep line)
 
 -- the items that the tokens give, or the first refusal. The last token of a text is its end, which the chunk alone takes: behind it nothing is still to come
-unfoldable pub run : Reading → List Token → Result (List Item) LuaSyntax
+unfoldable pub run : Reading → List Token → Result (List Item) LuaRefusal
 run reading [] = Ok reading.parts.items
 run reading (token ∷ tokens) = by_step (step reading.stack token reading.parts) (λ next. run next tokens) token.line
 
 -- the tree of a text, or what is wrong with it
-unfoldable pub tree_of : List ℕ → Result (List Item) LuaSyntax
+unfoldable pub tree_of : List ℕ → Result (List Item) LuaRefusal
 tree_of text = run (record { stack = s.Chunk ∷ []; parts = nothing_read }) (tokens text)

@@ -1,9 +1,8 @@
 -- What a step of the code has to do with the step that is meant.
-use Rattle.std.specs.Prelude.{◌≡◌, ◌≢◌, ℕ, List, ◌∷◌, ◌++◌, Result, Ok, Err}
+use Rattle.std.specs.Prelude.{◌≡◌, ℕ, List, ◌∷◌, ◌++◌, Result, Ok, Err}
 use Rattle.tis_base.specs.declared.memory.NoMemory as memory
-use Rattle.lua_syntax.specs.declared.tree.Item.{Item}
 use Rattle.lua_syntax.specs.declared.error.LuaSyntax.{LuaSyntax}
-use Rattle.lua_syntax.specs.declared.error.LuaSyntax.TheVariants.{NoMemory}
+use Rattle.lua_syntax.specs.Refusal.{IsRefused}
 use Rattle.lua_syntax.specs.declared.piece.Piece.{Piece}
 use Rattle.lua_syntax.specs.declared.piece.Token.{Token}
 use Rattle.lua_syntax.specs.Tokens.{onto_tokens, cut}
@@ -27,8 +26,8 @@ TokenLeadsTo stack parts token new_stack new_parts = (more : List Token) →
 
 -- reading a token fails so, whatever comes, unless memory ran out
 abbrev pub TokenFailsAt : List Symbol → Building → Token → LuaSyntax → Type 0
-TokenFailsAt stack parts token e = e ≢ NoMemory → (more : List Token) →
-    run (record { stack = stack; parts = parts }) (token ∷ more) ≡ Err e
+TokenFailsAt stack parts token e = (more : List Token) →
+    IsRefused e (run (record { stack = stack; parts = parts }) (token ∷ more))
 
 -- reading a piece on that line and then whatever comes, is reading from the new stack and parts
 abbrev pub LeadsTo : List Symbol → Building → Piece → ℕ → List Symbol → Building → Type 0
@@ -37,12 +36,8 @@ LeadsTo stack parts piece line new_stack new_parts = (more : List Token) →
 
 -- reading a piece on that line fails so, whatever comes, unless memory ran out
 abbrev pub FailsAt : List Symbol → Building → Piece → ℕ → LuaSyntax → Type 0
-FailsAt stack parts piece line e = e ≢ NoMemory → (more : List Token) →
-    run (record { stack = stack; parts = parts }) (onto_tokens piece line more) ≡ Err e
-
--- what is wanted is this refusal, unless memory ran out
-abbrev pub Parses : Result (List Item) LuaSyntax → LuaSyntax → Type 0
-Parses wanted e = e ≢ NoMemory → wanted ≡ Err e
+FailsAt stack parts piece line e = (more : List Token) →
+    IsRefused e (run (record { stack = stack; parts = parts }) (onto_tokens piece line more))
 
 -- the same for all the tokens of a text
 abbrev pub AllLeadTo : List Symbol → Building → List ℕ → List Symbol → Building → Type 0
@@ -50,5 +45,5 @@ AllLeadTo stack parts text new_stack new_parts = (more : List Token) →
     run (record { stack = stack; parts = parts }) (cut 0 0 text ++ more) ≡ run (record { stack = new_stack; parts = new_parts }) more
 
 abbrev pub AllFailAt : List Symbol → Building → List ℕ → LuaSyntax → Type 0
-AllFailAt stack parts text e = e ≢ NoMemory → (more : List Token) →
-    run (record { stack = stack; parts = parts }) (cut 0 0 text ++ more) ≡ Err e
+AllFailAt stack parts text e = (more : List Token) →
+    IsRefused e (run (record { stack = stack; parts = parts }) (cut 0 0 text ++ more))

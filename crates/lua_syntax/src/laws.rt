@@ -1,8 +1,10 @@
 //! Laws of the grammar.
-ghost use Rattle.lua_syntax.specs.Language.{SyntaxIsWrong};
+ghost use Rattle.lua_syntax.specs.Language.{TextsAnswer};
 
-/// Where the syntax is refused, the line is that of a token of the text with which no chunk goes on,
-/// whatever would come behind it.
-pub fn syntax_is_wrong()
-    ensures { SyntaxIsWrong }
+/// A text that is read is a chunk. Where the syntax is refused, the line is that of the first token with which no
+/// chunk goes on: some chunk begins with what stands before that token, and none with the token besides. Where the
+/// text ends too early, that token is its end, which stands on the last line. Where it is nested too deep, some
+/// chunk goes on with the token that is too deep, so that no token before it is wrong.
+pub fn texts_answer()
+    ensures { TextsAnswer }
 {}

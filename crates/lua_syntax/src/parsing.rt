@@ -1,8 +1,9 @@
 //! Texts to chunks.
-ghost use Rattle.std.specs.Prelude.{◌≡◌, ◌≢◌, ◌<◌, ◌≤◌, ◌+◌, [], ◌∷◌, ◌++◌, length, take, drop, Ok, Err, IfOk, IfErr, OnOk};
+ghost use Rattle.std.specs.Prelude.{◌≡◌, ◌<◌, ◌≤◌, ◌+◌, [], ◌∷◌, ◌++◌, length, take, drop, Ok, Err, IfOk, IfErr, OnOk};
 ghost use Rattle.lua_syntax.specs.Plain.{plain_answer, plain_items};
 ghost use Rattle.lua_syntax.specs.Reading.{tree_of, run};
-ghost use Rattle.lua_syntax.specs.Steps.{TokenLeadsTo, TokenFailsAt, LeadsTo, FailsAt, AllLeadTo, AllFailAt, Parses};
+ghost use Rattle.lua_syntax.specs.Steps.{TokenLeadsTo, TokenFailsAt, LeadsTo, FailsAt, AllLeadTo, AllFailAt};
+ghost use Rattle.lua_syntax.specs.Refusal.{IsRefused};
 ghost use Rattle.lua_syntax.specs.Tokens as spec;
 
 use crate::building::Building;
@@ -127,7 +128,7 @@ fn feed_all(
 pub fn parse(alloc: Global, bytes: &[u8]) -> Result<Chunk, LuaSyntax>
     ensures tree { IfOk result (λ chunk. tree_of bytes.now ≡ Ok chunk) }
     ensures plain { IfOk result (λ chunk. plain_answer (tree_of bytes.now) ≡ Ok (plain_items chunk)) }
-    ensures refused { IfErr result (λ e. Parses (tree_of bytes.now) e) }
+    ensures refused { IfErr result (λ e. IsRefused e (tree_of bytes.now)) }
 {
     let mut stack = Stack::new(alloc);
     stack.push(Symbol::Chunk)?;
