@@ -6,7 +6,7 @@ use Rattle.std.proofs.lemmas.List.Sums.{take_while-cons}
 use Rattle.std.proofs.lemmas.Bool.{and_from, and_parts}
 use Rattle.std.proofs.lemmas.Bool.Decides.{nat_tests}
 use Rattle.tis_base.specs.Lines.{onto_first, pieces_where, without_cr, without_empty_end, text_lines}
-use Rattle.tis_base.proofs.TextLines.{pieces-first, pieces-last}
+use Rattle.tis_base.proofs.WrittenLines.{pieces-first, pieces-last}
 use Rattle.net_syntax.specs.Words.{is_in_line, is_blank_byte, before_comment, is_word, words_in}
 
 -- the longest run in front whose bytes pass, and what stands behind it

@@ -1,6 +1,9 @@
+pub mod Values
+pub mod Progress
 pub mod Texts
 pub mod Passing
 pub mod Counting
 pub mod Numbers
+pub mod CodeLines
 pub mod ReadingBack
 pub mod Examples

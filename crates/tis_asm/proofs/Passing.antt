@@ -80,10 +80,10 @@ passes_from source dest mark acc bak last mode [] waits run =
     record { takes_only = λ dir apart. refl; gives_only = λ dir apart. refl; never_local = refl; at_first = refl; waits = waits; in_order = sym (append-nil (in_hand mode)) }
 passes_from source dest mark acc bak last Ready (Local ∷ steps) waits run = absurd (cc run.0)
 passes_from source dest mark acc bak last Ready (Took port value ∷ steps) waits run =
-    then_took source dest port value steps _ run.0 (passes_from source dest mark acc bak last (Writing value (One dest)) steps refl run.1)
+    then_took source dest port value steps _ run.0.0 (passes_from source dest mark acc bak last (Writing value (One dest)) steps refl run.1)
 passes_from source dest mark acc bak last Ready (Gave port value ∷ steps) waits run = absurd (cc run.0)
 passes_from source dest mark acc bak last (Writing held (One at)) (Local ∷ steps) waits run = absurd (cc run.0)
-passes_from source dest mark acc bak last (Writing held (One at)) (Took port value ∷ steps) waits run = absurd (cc run.0)
+passes_from source dest mark acc bak last (Writing held (One at)) (Took port value ∷ steps) waits run = absurd (cc run.0.0)
 passes_from source dest mark acc bak last (Writing held (One at)) (Gave port value ∷ steps) waits run =
     let given = chosen (is_same_dir at port) held value run.0 in
     then_gave source dest at port held value steps _ waits given.0 given.1 (passes_from source dest mark acc bak last Ready steps tt run.1)
@@ -99,5 +99,5 @@ moves_pass_values source dest mark steps run =
 pub empty_programs_rest : EmptyProgramsRest
 empty_programs_rest [] run = refl
 empty_programs_rest (Local ∷ steps) run = absurd (cc run.0)
-empty_programs_rest (Took port value ∷ steps) run = absurd (cc run.0)
+empty_programs_rest (Took port value ∷ steps) run = absurd (cc run.0.0)
 empty_programs_rest (Gave port value ∷ steps) run = absurd (cc run.0)

@@ -3,6 +3,7 @@ pub mod Code
 pub mod Assembling
 pub mod Node
 pub mod PortRuns
+pub mod Progress
 pub mod Passing
 pub mod Counting
 pub mod ReadingBack

@@ -1,5 +1,6 @@
 -- What one node does by itself, seen from its ports.
 use Rattle.std.specs.Prelude.{◌≡◌, ℕ, ◌+◌, ℤ, List, [], ◌∷◌, ◌++◌, Some, IsTrue, if◌then◌else◌}
+use Rattle.tis_base.specs.Saturation.{IsValue}
 use Rattle.tis_base.specs.declared.tiles.Dir.{Dir}
 use Rattle.tis_asm.specs.declared.program.MarkedInstr.{MarkedInstr}
 use Rattle.tis_asm.specs.Node.{Node, is_same_dir, can_local, local_step, wants, take_value, offers, gave}
@@ -10,10 +11,10 @@ pub data Step : Type 0 where
   Took : (dir : Dir) → (value : ℤ) → Step
   Gave : (dir : Dir) → (value : ℤ) → Step
 
--- the node can make this step
+-- the node can make this step; what it takes is a value of the machine
 abbrev pub IsStep : List MarkedInstr → Node → Step → Type 0
 IsStep program node Local = IsTrue (can_local program node)
-IsStep program node (Took dir value) = IsTrue (wants program node dir)
+IsStep program node (Took dir value) = IsTrue (wants program node dir) × IsValue value
 IsStep program node (Gave dir value) = offers node dir ≡ Some value
 
 -- the node after this step

@@ -1,6 +1,7 @@
 //! Laws of the nodes and of their programs: what each small program does, whatever its neighbours do, and that a text is read as it was written.
 ghost use Rattle.tis_asm.specs.Counting.{StepsAddUp};
 ghost use Rattle.tis_asm.specs.Passing.{MovesPassValues, EmptyProgramsRest};
+ghost use Rattle.tis_asm.specs.Progress.{NodesGoOn, FreshFits, StepsKeepFitting};
 ghost use Rattle.tis_asm.specs.ReadingBack.{ProgramsReadBack, LinesReadBack};
 
 /// A node whose program is one `MOV` between ports passes each value on, in order.
@@ -27,4 +28,16 @@ pub fn programs_read_back()
 /// blank lines follow.
 pub fn lines_read_back()
     ensures { LinesReadBack }
+{}
+
+/// A node of a program with an instruction can always do a local step, wants a port, or offers a
+/// value to one.
+pub fn nodes_go_on()
+    ensures { NodesGoOn }
+{}
+
+/// A fresh node is one of each program, and a step leads from a node of a program to one of it.
+pub fn nodes_fit()
+    ensures fresh { FreshFits }
+    ensures steps { StepsKeepFitting }
 {}

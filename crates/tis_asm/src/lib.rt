@@ -7,9 +7,10 @@ mod program;
 mod programs;
 mod text;
 
-pub use instr::{Dest, Instr, Source};
+pub use instr::{Dest, Instr, Jump, Source};
 pub use laws::{
-    empty_programs_rest, lines_read_back, moves_pass_values, programs_read_back, steps_add_up,
+    empty_programs_rest, lines_read_back, moves_pass_values, nodes_fit, nodes_go_on,
+    programs_read_back, steps_add_up,
 };
 pub use program::Program;
 pub use programs::Programs;

@@ -1,6 +1,8 @@
 //! The program of one node.
 ghost use Rattle.std.specs.Prelude.{◌≡◌, ◌<◌, ◌↔◌, [], ◌∷◌, ◌++◌, length, slice_get, option_map, Some, IsTrue, ◌≤◌};
 ghost use Rattle.std.specs.Bool.{OnTrue, OnFalse};
+ghost use Rattle.tis_asm.specs.Programs.{HasValues};
+ghost use Rattle.tis_asm.specs.Code.{is_target};
 
 use crate::instr::Instr;
 use arrayvec::ArrayVec;
@@ -25,10 +27,13 @@ pub struct Program {
 impl Model for Program {
     ghost use Rattle.std.specs.Prelude.{List};
     ghost use Rattle.tis_asm.specs.declared.program.MarkedInstr.{MarkedInstr};
+    ghost use Rattle.tis_asm.specs.Programs.{HasValues};
 
     ghost Value = { List MarkedInstr };
 
     ghost view = { λ p. p.instrs.items };
+
+    ghost invariant = { λ p. HasValues p.instrs.items };
 }
 
 impl Program {
@@ -45,6 +50,7 @@ impl Program {
     pub fn len(&self) -> u8
         ensures len { result ≡ length self.now }
         ensures short { length self.now ≤ 15 }
+        ensures values { HasValues self.now }
     {
         self.instrs.len() as u8
     }
@@ -80,6 +86,15 @@ impl Program {
         self.marked_instr(index).mark
     }
 
+    // Whether some jump goes to the instruction with a number from 0 on.
+    pub(crate) fn is_target(&self, number: u8) -> bool
+        ensures { result ≡ is_target self.now number }
+    {
+        self.instrs
+            .iter()
+            .any(|marked| marked.instr.jumps_to(number))
+    }
+
     /// One more instruction at the end, with a mark or without one. False, and the program stays as
     /// it is, exactly where fifteen are there.
     pub fn push(&mut self, instr: Instr, mark: bool) -> bool
@@ -87,6 +102,11 @@ impl Program {
         ensures pushed { OnTrue result (self.new ≡ self.old ++ record { instr = instr; mark = mark } ∷ []) }
         ensures unchanged { OnFalse result (self.new ≡ self.old) }
     {
-        self.instrs.try_push(MarkedInstr { instr, mark }).is_ok()
+        if self.instrs.is_full() {
+            return false;
+        }
+        instr.held();
+        self.instrs.push(MarkedInstr { instr, mark });
+        true
     }
 }

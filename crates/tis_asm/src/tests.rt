@@ -1,7 +1,7 @@
-use crate::{Dest, Instr, Program, Programs, Source, print};
+use crate::{Dest, Instr, Jump, Program, Programs, Source, print};
 use std::alloc::Global;
 use std::test::Fail;
-use tis_base::{Dir, Shape, Tile, TileKind, Tiles};
+use tis_base::{Dir, Shape, Tile, TileKind, Tiles, Value};
 
 // A move between two ports.
 fn moves(from: Dir, to: Dir) -> Instr {
@@ -50,6 +50,33 @@ fn a_program_takes_fifteen_lines_and_prints_them(rt: HostRuntime) -> Result<(), 
     assert!(rt;
         before.starts_with(b"MOV UP, DOWN\n!MOV LEFT, RIGHT\nMOV DOWN, LEFT\n!MOV RIGHT, UP\nMOV")
     );
+    Ok(())
+}
+
+#[test]
+fn each_instruction_is_printed_in_capitals(rt: HostRuntime) -> Result<(), Fail> {
+    let mut program = Program::new();
+    for (instr, mark) in [
+        (Instr::Mov(Source::Any, Dest::Last), false),
+        (Instr::Jump(Jump::IfPositive, 3), true),
+        (Instr::Swp, false),
+        (Instr::Jro(Source::Number(Value::clamp(-1))), true),
+        (Instr::Jump(Jump::Always, 0), false),
+        (Instr::Mov(Source::Last, Dest::Any), false),
+        (Instr::Mov(Source::Nil, Dest::Nil), false),
+        (Instr::Mov(Source::Acc, Dest::Acc), false),
+        (Instr::Nop, false),
+        (Instr::Sav, false),
+        (Instr::Neg, false),
+        (Instr::Jump(Jump::IfZero, 10), false),
+        (Instr::Jump(Jump::IfNotZero, 0), false),
+        (Instr::Jump(Jump::IfNegative, 0), false),
+    ] {
+        assert!(rt; program.push(instr, mark));
+    }
+    let want =
+        b"L0: MOV ANY, LAST\n!JGZ L3\nSWP\nL3: !JRO -1\nJMP L0\nMOV LAST, ANY\nMOV NIL, NIL\nMOV ACC, ACC\nNOP\nSAV\nL10: NEG\nJEZ L10\nJNZ L0\nJLZ L0\n";
+    assert_eq!(rt; print(rt.alloc(), &program)?.as_slice(), want.as_slice());
     Ok(())
 }
 

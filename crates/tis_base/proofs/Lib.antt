@@ -2,5 +2,6 @@ pub mod Texts
 pub mod Writes
 pub mod Always
 pub mod Prefixes
-pub mod TextLines
+pub mod WrittenLines
 pub mod Saturating
+pub mod NextLine

@@ -8,5 +8,6 @@ pub mod Values
 pub mod Counts
 pub mod MemStore
 pub mod MemSink
-pub mod Reading
+pub mod Turns
+pub mod Transfers
 pub mod Tally

@@ -29,6 +29,11 @@ is_compute Compute = true
 is_compute Memory = false
 is_compute Damaged = false
 
+abbrev pub is_memory : TileKind → Bool
+is_memory Compute = false
+is_memory Memory = true
+is_memory Damaged = false
+
 -- the tile with this number is there and is a compute tile
 abbrev pub IsCompute : Tiles → ℕ → Type 0
 IsCompute board tile = slice_get board.kinds tile ≡ Some Compute

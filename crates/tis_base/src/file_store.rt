@@ -4,7 +4,8 @@ ghost use Rattle.tis_base.specs.Outside.{Rose};
 ghost use Rattle.tis_base.specs.Counts.{one_more};
 
 use crate::store::{Store, StoreError};
-use crate::transfer::{LARGEST, cause_of, cause_of_open, read_all, write_all};
+use crate::transfer::{read_all, write_all};
+use crate::turns::{cause_of, cause_of_open};
 use std::alloc::Global;
 use std::fs;
 use std::marker::Model;
@@ -29,7 +30,7 @@ impl<'a, R> Model for FileStore<'a, R> {
 
 // Reads the file with a name. Only where the file isn't there the name is missing.
 fn read_file<R: Files>(rt: &R, alloc: Global, name: &str) -> Result<Vec<u8>, StoreError>
-    ensures fits { IfOk result (λ bytes. vec_len bytes ≤ LARGEST) }
+    ensures fits { IfOk result (λ bytes. vec_len bytes ≤ 16777216) }
 {
     match fs::open(rt, name) {
         Ok(mut file) => read_all(alloc, &mut file),
@@ -88,7 +89,7 @@ impl<R: Files> Store for FileStore<'_, R> {
     /// there to be opened is missing. Anything else that goes wrong, but for want of memory, is a
     /// fault.
     fn fetch(&mut self, alloc: Global, name: &str) -> Result<Vec<u8>, StoreError>
-        ensures fits { IfOk result (λ bytes. vec_len bytes ≤ LARGEST) }
+        ensures fits { IfOk result (λ bytes. vec_len bytes ≤ 16777216) }
         ensures faults_rise { IsErrOf result StoreError.Failed
             → self.new.faults ≡ one_more self.old.faults }
         ensures faults_stay { result ≢ Err StoreError.Failed → self.new.faults ≡ self.old.faults }
@@ -123,7 +124,6 @@ impl<R: Files> Store for FileStore<'_, R> {
         ensures failed_counted { IsErrOf result StoreError.Failed
             → Rose self.old.faults self.new.faults }
         ensures faults_never_fall { self.old.faults ≤ self.new.faults }
-        ensures misses_never_fall { self.old.misses ≤ self.new.misses }
     {
         match write_file(self.rt, name, bytes) {
             Ok(()) => Ok(()),

@@ -1,5 +1,5 @@
 //! Standard output as a sink.
-ghost use Rattle.std.specs.Prelude.{◌≡◌, ◌≤◌, None, OnOk, OnErr, IsErrOf, IsOkUnless};
+ghost use Rattle.std.specs.Prelude.{◌≡◌, ◌≢◌, ◌≤◌, None, OnErr, IsErrOf, IsOkUnless};
 ghost use Rattle.tis_base.specs.Outside.{Rose, WrotePrefix};
 ghost use Rattle.tis_base.specs.Counts.{one_more};
 
@@ -43,7 +43,7 @@ impl<R: Print> Sink for OutSink<'_, R> {
         ensures failed { IsErrOf result SinkError.Failed → WrotePrefix None bytes.now None }
         ensures only_failed { IsOkUnless result SinkError.Failed }
         ensures faults_rise { OnErr result (self.new ≡ one_more self.old) }
-        ensures faults_stay { OnOk result (self.new ≡ self.old) }
+        ensures faults_stay { result ≢ Err SinkError.Failed → self.new ≡ self.old }
         ensures failed_counted { IsErrOf result SinkError.Failed → Rose self.old self.new }
         ensures faults_never_fall { self.old ≤ self.new }
     {

@@ -53,5 +53,6 @@ pub trait Sink {
         ensures failed { IsErrOf result SinkError.Failed → WrotePrefix (written self.old) bytes.now (written self.new) }
         ensures failed_counted { IsErrOf result SinkError.Failed → Rose (faults self.old) (faults self.new) }
         ensures no_memory { IsErrOf result SinkError.NoMemory → written self.new ≡ written self.old }
+        ensures faults_stay { result ≢ Err SinkError.Failed → faults self.new ≡ faults self.old }
         ensures faults_never_fall { faults self.old ≤ faults self.new };
 }

@@ -52,22 +52,27 @@ pub trait Store {
     /// How often a name wasn't there. At 2^64 - 1 it counts no further.
     ghost misses: { Self → ℕ };
 
-    /// The bytes under a name. The texts stay as they are.
+    /// The bytes under a name. The texts stay as they are. Each count rises with its own answer
+    /// alone.
     fn fetch(&mut self, alloc: Global, name: &str) -> Result<Vec<u8>, StoreError>
         ensures ok { IfOk result (λ bytes. IfSome (texts self.old) (λ t. text_at t name.now ≡ Some bytes.items)) }
         ensures missing { IsErrOf result StoreError.Missing → IfSome (texts self.old) (λ t. text_at t name.now ≡ None) }
         ensures missing_counted { IsErrOf result StoreError.Missing → Rose (misses self.old) (misses self.new) }
         ensures failed_counted { IsErrOf result StoreError.Failed → Rose (faults self.old) (faults self.new) }
         ensures texts_stay { texts self.new ≡ texts self.old }
+        ensures faults_stay { result ≢ Err StoreError.Failed → faults self.new ≡ faults self.old }
+        ensures misses_stay { result ≢ Err StoreError.Missing → misses self.new ≡ misses self.old }
         ensures faults_never_fall { faults self.old ≤ faults self.new }
         ensures misses_never_fall { misses self.old ≤ misses self.new };
 
-    /// Puts these bytes under a name. An error leaves a told store's texts as they were.
+    /// Puts these bytes under a name. An error leaves a told store's texts as they were. No name
+    /// is looked for, so that none is missed.
     fn keep(&mut self, name: &str, bytes: &[u8]) -> Result<(), StoreError>
         ensures ok { OnOk result (texts self.new ≡ option_map (λ t. with_text t name.now bytes.now) (texts self.old)) }
         ensures err { OnErr result (texts self.new ≡ texts self.old) }
         ensures never_missing { result ≢ Err StoreError.Missing }
         ensures failed_counted { IsErrOf result StoreError.Failed → Rose (faults self.old) (faults self.new) }
-        ensures faults_never_fall { faults self.old ≤ faults self.new }
-        ensures misses_never_fall { misses self.old ≤ misses self.new };
+        ensures faults_stay { result ≢ Err StoreError.Failed → faults self.new ≡ faults self.old }
+        ensures misses_stay { misses self.new ≡ misses self.old }
+        ensures faults_never_fall { faults self.old ≤ faults self.new };
 }

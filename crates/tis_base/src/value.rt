@@ -1,5 +1,5 @@
 //! The numbers that the machine holds.
-ghost use Rattle.std.specs.Prelude.{◌≡◌, ◌↔◌, IsSome, IfSome, IsTrue, pos};
+ghost use Rattle.std.specs.Prelude.{◌≡◌, ◌↔◌, ◌+ℤ◌, ◌-ℤ◌, neg_ℤ, IsSome, IfSome, IsTrue, pos};
 ghost use Rattle.tis_base.specs.Saturation.{sat, IsValue};
 
 use std::marker::Model;
@@ -60,10 +60,44 @@ impl Value {
         i64::from(self.number)
     }
 
+    /// The sum, held at the ends of the range.
+    pub fn add(self, other: Value) -> Value
+        ensures { result ≡ sat (self +ℤ other) }
+    {
+        Value::clamp(self.get() + other.get())
+    }
+
+    /// What is left of it when the other is taken away, held at the ends of the range.
+    pub fn sub(self, other: Value) -> Value
+        ensures { result ≡ sat (self -ℤ other) }
+    {
+        Value::clamp(self.get() - other.get())
+    }
+
+    /// The value on the other side of 0. The range is as wide on both sides, so that it is never
+    /// held at an end.
+    pub fn neg(self) -> Value
+        ensures value { result ≡ sat (neg_ℤ self) }
+        ensures exact { result ≡ neg_ℤ self }
+    {
+        Value::clamp(-self.get())
+    }
+
     /// Whether it is this number.
     pub(crate) fn is(self, number: u64) -> bool
         ensures { IsTrue result ↔ (self ≡ pos number) }
     {
         0 <= self.number && u64::from(self.number.unsigned_abs()) == number
+    }
+}
+
+impl Default for Value {
+    ghost use Rattle.std.specs.Prelude.{◌≡◌, pos};
+
+    ghost is_default = { λ value. value ≡ pos 0 };
+
+    /// The number 0.
+    fn default() -> Self {
+        Value { number: 0 }
     }
 }

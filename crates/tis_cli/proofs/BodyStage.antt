@@ -1,19 +1,32 @@
 -- The code of each body of a column behaves as its process, and is a stage.
-use Rattle.std.proofs.Common.{◌≡◌, ℕ, ◌+◌, ◌*◌, ◌≤◌, ℤ, List, [], ◌∷◌, ◌++◌, length, map, refl, sym, ap, ◌∙◌, append-nil, arith}
+use Rattle.std.proofs.Common.{◌≡◌, ℕ, ◌+◌, ◌*◌, ◌<◌, ◌≤◌, ℤ, List, [], ◌∷◌, ◌++◌, length, map, refl, sym, ap, subst, ◌∙◌, append-nil, arith}
 use Rattle.std.proofs.Math.Nat.{mul-le-mul_left}
 use Rattle.std.proofs.lemmas.List.{length-map, map-append}
 use Rattle.tis_base.specs.Prefix.{IsPrefixOf}
 use Rattle.tis_base.specs.declared.tiles.Dir.TheVariants.{Up, Down}
 use Rattle.tis_asm.specs.Node.{Node, fresh}
-use Rattle.tis_asm.specs.PortRuns.{Step, after_steps, taken_from, given_to}
+use Rattle.tis_asm.specs.PortRuns.{Step, IsPortRun, after_steps, taken_from, given_to}
 use Rattle.tis_cli.specs.Net.{Name, Statement}
-use Rattle.tis_cli.specs.Process.{WaitsOn, OutOfFuel, beginning}
+use Rattle.tis_cli.specs.Process.{Streams, WaitsOn, OutOfFuel, beginning, process_run, block_cost, body_cost}
 use Rattle.tis_cli.specs.Compiled.{code_of}
 use Rattle.tis_cli.specs.Behaves.{stream_of, process_over, BehavesAfter, Behaves, ProcessesBehave, ProcessesWait}
-use Rattle.tis_cli.specs.Stage.{WorksAs, Stage}
+use Rattle.tis_cli.proofs.Stage.{WorksAs, Stage}
 use Rattle.tis_cli.proofs.Bodies.{Round, Moves, Computes, round_value, round_local, round_of}
 use Rattle.tis_cli.proofs.Rounds.{with_stream-same, SendsAll, sends_all}
 use Rattle.tis_cli.proofs.Places.{RunStands, run_stands}
+
+-- each statement costs one step
+pub block_cost-length : (body : List Statement) → block_cost body ≡ length body
+block_cost-length [] = refl
+block_cost-length (statement ∷ body) = omega (arith, block_cost-length body)
+
+-- fuel for all steps is fuel for all rounds
+enough_rounds : (count cost fuel : ℕ) → 0 < cost → (1 + count) * cost < fuel → count < fuel
+enough_rounds count cost fuel some enough = omega (arith, mul-le-mul_left (1 + count) some)
+
+-- a round for each value, and one that waits, take less than they may
+enough_fuel : (count size cost fuel : ℕ) → cost ≡ 2 + 2 * size → (1 + count) * cost < fuel → count * (1 + size) + 2 < fuel
+enough_fuel count size cost fuel is enough = let all : (1 + count) * (2 + 2 * size) < fuel = subst (λ (c : ℕ). (1 + count) * c < fuel) is enough in omega arith
 
 -- a round has fewer local steps than its body has statements
 round_local_few : {read written : Name} {body : List Statement} (round : Round read written body) → round_local round ≤ length body
@@ -34,7 +47,7 @@ local_few own taken size body steps few small all = omega (arith, mul-le-mul_lef
 
 -- the node is where its process is
 behaves_after : (read written : Name) (body : List Statement) (value_of : ℤ → ℤ) (size : ℕ) (steps : List Step) (node : Node) → size ≤ length body → RunStands body value_of size steps node →
-    SendsAll read written value_of (length body) (taken_from Up steps) (beginning (stream_of read (taken_from Up steps))) (process_over body read (taken_from Up steps)) → BehavesAfter (code_of body) (process_over body read (taken_from Up steps)) read written steps node
+    SendsAll read written value_of (length body) (taken_from Up steps) (beginning (stream_of read (taken_from Up steps)) ((1 + length (taken_from Up steps)) * body_cost body + 1)) (process_over body read (taken_from Up steps)) → BehavesAfter (code_of body) (process_over body read (taken_from Up steps)) read written steps node
 behaves_after read written body value_of size steps node small run sends =
     let in_order : given_to Down steps ++ run.later ≡ (process_over body read (taken_from Up steps)).state.sent written = run.in_order ∙ sym sends.sent in
     record {
@@ -47,12 +60,27 @@ behaves_after read written body value_of size steps node small run sends =
       within_fuel = λ out. let same : WaitsOn read ≡ OutOfFuel = sym sends.waits ∙ out in absurd (cc same);
     }
 
--- the code of each body behaves as its process
-pub body_behaves : {read written : Name} {body : List Statement} → Round read written body → Behaves (code_of body) body read written
-body_behaves {read = read} {written = written} {body = body} round steps run =
+-- a process over streams, with more fuel than the steps that it may take
+pub sends_over : {read written : Name} {body : List Statement} (round : Round read written body) (streams : Streams) (values : List ℤ) (fuel : ℕ) → (1 + length values) * body_cost body < fuel → streams read ≡ values →
+    SendsAll read written (round_value round) (length body) values (beginning streams fuel) (process_run body streams fuel)
+sends_over {body = body} round streams values fuel enough is =
+    sends_all round values fuel (beginning streams fuel) (omega (arith, enough_rounds (length values) (body_cost body) fuel (omega arith) enough)) (omega (arith, enough_fuel (length values) (length body) (body_cost body) fuel (ap (λ (cost : ℕ). 2 + 2 * cost) (block_cost-length body)) enough)) is
+
+-- after each run the node is where its process is
+run_behaves : {read written : Name} {body : List Statement} → Round read written body → (steps : List Step) → IsPortRun (code_of body) fresh steps → BehavesAfter (code_of body) (process_over body read (taken_from Up steps)) read written steps (after_steps (code_of body) fresh steps)
+run_behaves {read = read} {written = written} {body = body} round steps run =
     let taken = taken_from Up steps in
     behaves_after read written body (round_value round) (round_local round) steps (after_steps (code_of body) fresh steps) (round_local_few round) (run_stands round steps run)
-    (sends_all round taken (length taken + 1) (beginning (stream_of read taken)) (omega arith) (with_stream-same (λ name. []) read taken))
+    (sends_over round (stream_of read taken) taken ((1 + length taken) * body_cost body + 1) (omega arith) (with_stream-same (λ name. []) read taken))
+
+-- the code of a body has an instruction
+round_some : {read written : Name} {body : List Statement} → Round read written body → 0 < length (code_of body)
+round_some Moves = omega arith
+round_some (Computes rest view) = omega arith
+
+-- the code of each body behaves as its process
+pub body_behaves : {read written : Name} {body : List Statement} → Round read written body → Behaves (code_of body) body read written
+body_behaves round = record { some = round_some round; after = λ steps run. run_behaves round steps run }
 
 -- the code of each process of a column behaves as the process
 pub processes_behave : ProcessesBehave
@@ -60,7 +88,7 @@ processes_behave read written body is_body = body_behaves (round_of read written
 
 -- each process of a column comes to wait
 pub processes_wait : ProcessesWait
-processes_wait read written body is_body streams fuel enough = (sends_all (round_of read written body is_body) (streams read) fuel (beginning streams) enough refl).waits
+processes_wait read written body is_body streams fuel enough = (sends_over (round_of read written body is_body) streams (streams read) fuel enough refl).waits
 
 -- ---- stages
 

@@ -7,14 +7,14 @@ use Rattle.std.proofs.lemmas.List.{length-map}
 use Rattle.std.proofs.lemmas.List.Sums.{sum_by-cons}
 use Rattle.tis_grid.specs.Puzzle.{Input, values_at}
 use Rattle.tis_cli.specs.Net.{Name, Statement, ChannelLine, Process, Net}
-use Rattle.tis_cli.specs.Process.{Streams, reads, block_cost, beginning}
+use Rattle.tis_cli.specs.Process.{Streams, reads, cost, beginning}
 use Rattle.tis_cli.specs.Kahn.{input_streams, readable, read_count, step_limit, run_of, joined, streams_from, kahn_streams, kahn_at, step_limits, bound}
 use Rattle.tis_cli.specs.Column.{StandInLine, channel_of, Column, links_below, IsColumn, column_net}
-use Rattle.tis_cli.specs.Stage.{made_by, most_steps}
+use Rattle.tis_cli.proofs.Stage.{made_by, most_steps}
 use Rattle.tis_cli.proofs.Bodies.{Round, Moves, Computes, round_value, round_of}
-use Rattle.tis_cli.proofs.Rounds.{bytes_eq-self, with_stream-same, with_stream-other, SendsAll, sends_all}
+use Rattle.tis_cli.proofs.Rounds.{bytes_eq-self, with_stream-same, with_stream-other, SendsAll}
 use Rattle.tis_cli.proofs.Places.{both_empty}
-use Rattle.tis_cli.proofs.BodyStage.{round_stage_few}
+use Rattle.tis_cli.proofs.BodyStage.{block_cost-length, sends_over, round_stage_few}
 use Rattle.tis_cli.proofs.PassStage.{pass_stage}
 use Rattle.tis_cli.proofs.ColumnStages.{line_stages, length-line_stages, column_stages, made_by-append, made_by-passes, most_steps-append, most_steps-passes, most_steps-some}
 
@@ -89,22 +89,22 @@ read_count-enough net streams process read known is_read =
     let here : (if reads process.body read then length (streams read) else 0) ≡ length (streams read) = rw is_read refl in
     omega (arith, here, part_of_sum (λ name. if reads process.body name then length (streams name) else 0) read (readable net) known)
 
--- each statement costs one step
-block_cost-length : (body : List Statement) → block_cost body ≡ length body
-block_cost-length [] = refl
-block_cost-length (statement ∷ body) = omega (arith, block_cost-length body)
-
 -- more values leave room for more steps
 more_room : (few many size : ℕ) → few ≤ many → (1 + few) * (2 + 2 * size) ≤ (1 + many) * (2 + 2 * size)
 more_room few many size le = omega (arith, mul-le-mul_left size le)
 
+-- a process may take all the steps for the values on the name that it reads
+limit-enough : (net : Net) (streams : Streams) (process : Process) {read written : Name} (round : Round read written process.body) → IsIn read (readable net) → (1 + length (streams read)) * cost process ≤ step_limit net streams process
+limit-enough net streams process {read = read} round known =
+    let few = read_count-enough net streams process read known (round_reads round) in
+    omega (arith, mul-le-mul_left (cost process) few)
+
 -- ---- streams
 
 -- a process of the line over the streams before it: it sends one value for each that it reads
-run_sends : (net : Net) (streams : Streams) (process : Process) {read written : Name} (round : Round read written process.body) → IsIn read (readable net) → SendsAll read written (round_value round) (length process.body) (streams read) (beginning streams) (run_of net streams process)
+run_sends : (net : Net) (streams : Streams) (process : Process) {read written : Name} (round : Round read written process.body) → IsIn read (readable net) → SendsAll read written (round_value round) (length process.body) (streams read) (beginning streams (step_limit net streams process + 1)) (run_of net streams process)
 run_sends net streams process {read = read} round known =
-    let few = read_count-enough net streams process read known (round_reads round) in
-    sends_all round (streams read) (step_limit net streams process + 1) (beginning streams) (omega arith) refl
+    sends_over round streams (streams read) (step_limit net streams process + 1) (omega (arith, limit-enough net streams process round known)) refl
 
 -- what the process sends stands on the name that it writes
 on_written : (net : Net) (streams : Streams) (process : Process) {read written : Name} (round : Round read written process.body) → IsIn read (readable net) → streams written ≡ [] → joined streams (run_of net streams process).state.sent written ≡ map (round_value round) (streams read)

@@ -2,7 +2,7 @@
 use Rattle.std.proofs.Common.{◌≡◌, ◌≢◌, ℕ, zero, suc, ◌+◌, ◌-◌, ◌*◌, ◌<◌, ◌≤◌, Bool, true, false, List, [], ◌∷◌, length, map, replicate, Option, Some, refl, sym, ap, subst, ◌∙◌, inl, inr, arith}
 use Rattle.std.specs.Prelude.{◌⊎◌, unwrap_or, if◌then◌else◌}
 use Rattle.std.specs.List.{range_with_len, list_any}
-use Rattle.std.proofs.lemmas.Bool.{cases_lt, cases_eq, lt-ltb}
+use Rattle.std.proofs.lemmas.Bool.{cases_lt, cases_eq, cond_both, lt-ltb}
 use Rattle.std.proofs.lemmas.List.{get_or_past, get_or-replicate, length-map}
 use Rattle.std.proofs.lemmas.List.FromFn.{get_or-map-range_with_len}
 use Rattle.std.proofs.lemmas.Option.{slice_get-get_or}
@@ -11,15 +11,15 @@ use Rattle.tis_base.specs.declared.tiles.TileKind.{TileKind}
 use Rattle.tis_base.specs.declared.tiles.TileKind.TheVariants.{Compute}
 use Rattle.tis_base.specs.declared.tiles.Dir.TheVariants.{Down}
 use Rattle.tis_asm.specs.declared.program.MarkedInstr.{MarkedInstr}
-use Rattle.tis_asm.specs.Programs.{ArePrograms, HasValues, program_at}
+use Rattle.tis_asm.specs.Programs.{ArePrograms, HasValues, JumpsWithin, JumpWithin, IsSound, program_at}
 use Rattle.tis_grid.specs.Puzzle.{Puzzle, Input, Output, IsPuzzle}
 use Rattle.tis_grid.specs.State.{Grid, IsGrid}
 use Rattle.tis_grid.specs.Events.{program_of}
-use Rattle.tis_cli.specs.Net.{Name, Process}
+use Rattle.tis_cli.specs.Net.{Name, X, Statement, Get, Put, PutNumber, Move, Set, Add, Sub, Neg, Double, Process}
 use Rattle.tis_cli.specs.Column.{StandInLine, Column, links_below, IsColumn, plain_tiles, column_net}
 use Rattle.tis_cli.specs.Compiled.{statement_code, code_of, pass_code, passes, stands_at, process_code_at, program_for, compiled}
 use Rattle.tis_cli.specs.Carries.{grid_with}
-use Rattle.tis_cli.specs.Stage.{Stage, StandsOn, StandDown, IsAmong, IsPipeline}
+use Rattle.tis_cli.proofs.Stage.{Stage, StandsOn, StandDown, IsAmong, IsPipeline}
 use Rattle.tis_cli.proofs.Bodies.{body_short}
 use Rattle.tis_cli.proofs.BodyValues.{body_values}
 use Rattle.tis_cli.proofs.PassStage.{pass_stage}
@@ -99,6 +99,34 @@ code_values tile read (written ∷ names) [] line other are at = absurd line
 link_values : (is_passed : Bool) → HasValues (if is_passed then pass_code else [])
 link_values true = (tt, tt)
 link_values false = tt
+
+-- the code of a statement is no jump
+statement_sound : (count : ℕ) (statement : Statement) → JumpsWithin count (statement_code statement).instr
+statement_sound count (Get read X) = tt
+statement_sound count (Put written X) = tt
+statement_sound count (PutNumber written number) = tt
+statement_sound count (Move read written) = tt
+statement_sound count (Set X number) = tt
+statement_sound count (Add X number) = tt
+statement_sound count (Sub X number) = tt
+statement_sound count (Neg X) = tt
+statement_sound count (Double X) = tt
+
+-- so no code has a jump that leaves it
+body_sound : (count : ℕ) (body : List Statement) → JumpWithin count (code_of body)
+body_sound count [] = tt
+body_sound count (statement ∷ body) = (statement_sound count statement, body_sound count body)
+
+codes_sound : (processes : List Process) (other : List MarkedInstr) → IsSound other → (at : ℕ) → IsSound (unwrap_or (process_code_at processes at) other)
+codes_sound [] other sound at = sound
+codes_sound (process ∷ processes) other sound at =
+    cond_both (stands_at process.at at) (Some (code_of process.body)) (process_code_at processes at) (λ found. IsSound (unwrap_or found other))
+    (λ here. body_sound (length (code_of process.body)) process.body) (λ elsewhere. codes_sound processes other sound at)
+
+-- nor has a tile that passes values on, or one with nothing
+link_sound : (is_passed : Bool) → IsSound (if is_passed then pass_code else [])
+link_sound true = (tt, tt)
+link_sound false = tt
 
 -- ---- the grid
 
@@ -190,19 +218,29 @@ program-values column inputs outputs tile is_column =
       | inr outside ↦ subst (λ (p : List MarkedInstr). HasValues p) (sym (program-outside column inputs outputs tile outside)) tt
     ]
 
--- so are those in the programs of a column
-pub column_values : (column : Column) → IsColumn column → (tile : ℕ) → HasValues (program_at (compiled (column_net column)).programs tile)
-column_values column is_column tile = program-values column [] [] tile is_column
+-- the jumps of each program of the grid stay inside
+program-sound : (column : Column) (inputs : List Input) (outputs : List Output) (tile : ℕ) → IsSound (program_of (column_grid column inputs outputs) tile)
+program-sound column inputs outputs tile =
+    elim (cases_lt tile 12) [
+      | inl inside ↦ subst (λ (p : List MarkedInstr). IsSound p) (sym (program-inside column inputs outputs tile inside))
+          (codes_sound column.processes (link_code column tile) (link_sound (list_any (λ port. passes port tile) (column_net column).outputs)) tile)
+      | inr outside ↦ subst (λ (p : List MarkedInstr). IsSound p) (sym (program-outside column inputs outputs tile outside)) tt
+    ]
 
--- the programs of a column are a programs
+-- so do those in the programs of a column
+pub column_is_sound : (column : Column) (tile : ℕ) → IsSound (program_at (compiled (column_net column)).programs tile)
+column_is_sound column tile = program-sound column [] [] tile
+
+-- the programs of a column are programs of its tiles
 pub column_are_programs : (column : Column) → IsColumn column → ArePrograms (compiled (column_net column))
 column_are_programs column is_column =
     record {
       one_each = refl;
       short = λ tile. program-short column [] [] tile is_column;
+      values = λ tile. program-values column [] [] tile is_column;
       elsewhere = λ tile apart. elim (cases_lt tile 12) [ inl inside ↦ absurd (apart (is_compute-plain tile inside)) | inr outside ↦ program-outside column [] [] tile outside ];
     }
 
 -- the programs are for the tiles
 pub column_is_grid : (column : Column) (inputs : List Input) (outputs : List Output) → IsColumn column → IsPuzzle (plain_puzzle inputs outputs) → IsGrid (column_grid column inputs outputs)
-column_is_grid column inputs outputs is_column is_puzzle = record { puzzle = is_puzzle; programs = column_are_programs column is_column }
+column_is_grid column inputs outputs is_column is_puzzle = record { puzzle = is_puzzle; programs = column_are_programs column is_column; sound = program-sound column inputs outputs }

@@ -8,7 +8,7 @@ use Rattle.tis_asm.specs.declared.program.MarkedInstr.{MarkedInstr}
 use Rattle.tis_cli.specs.Net.{Name, Process}
 use Rattle.tis_cli.specs.Column.{StandInLine, tiles_below, Column, links_below, IsColumn}
 use Rattle.tis_cli.specs.Compiled.{code_of, process_code_at}
-use Rattle.tis_cli.specs.Stage.{Stage, made_by, most_steps}
+use Rattle.tis_cli.proofs.Stage.{Stage, made_by, most_steps}
 use Rattle.tis_cli.proofs.Bodies.{round_of}
 use Rattle.tis_cli.proofs.BodyStage.{round_stage}
 use Rattle.tis_cli.proofs.PassStage.{pass_stage}

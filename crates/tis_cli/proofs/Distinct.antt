@@ -8,7 +8,7 @@ use Rattle.std.proofs.lemmas.List.Elements.{All-cons, All-nil, All-append}
 use Rattle.std.proofs.lemmas.List.Kept.{AllPairs-cons}
 use Rattle.std.proofs.lemmas.List.Quantifiers.{all_pairs_push}
 use Rattle.std.proofs.lemmas.Slice.Eq.{bytes_eq-Decides}
-use Rattle.tis_base.proofs.TextLines.{not_is}
+use Rattle.tis_base.proofs.WrittenLines.{not_is}
 use Rattle.tis_cli.specs.Net.{Name}
 use Rattle.tis_cli.specs.Column.{Column, links_below}
 use Rattle.tis_cli.specs.Reading.{is_among, all_differ, links_differ, process_names}

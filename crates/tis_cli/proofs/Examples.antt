@@ -1,13 +1,13 @@
 -- Small saves, written and read.
 use Rattle.std.proofs.Common.{◌≡◌, ℕ, List, [], ◌∷◌, refl}
-use Rattle.std.specs.Prelude.{codes, Some, Ok, Err}
+use Rattle.std.specs.Prelude.{codes, Some, Ok}
 use Rattle.std.specs.Fmt.{digits}
 use Rattle.tis_asm.specs.Programs.{Programs}
-use Rattle.tis_asm.specs.Assembling.{BadLine}
 use Rattle.tis_cli.specs.Column.{Column, column_net, plain_tiles}
 use Rattle.tis_cli.specs.Compiled.{pass_code, compiled}
 use Rattle.tis_cli.specs.Net.{Move}
-use Rattle.tis_cli.specs.Saves.{BadHead, RepeatedBlock, StrayCode, Asm, save_text, save_of}
+use Rattle.tis_save.specs.Writing.{save_text}
+use Rattle.tis_save.specs.Reading.{save_of}
 
 -- the column at position 1, whose names have one letter each
 abbrev column_a : Column
@@ -43,23 +43,3 @@ read_a = refl
 read_loosely : save_of (codes "\n@9\nMOV UP DOWN\n@1\n  MOV UP,DOWN\r\n@5\nMOV\tUP , DOWN") plain_tiles ≡ Ok programs_of_a
 unfolding save_of digits
 read_loosely = refl
-
--- a line that is no code
-bad_code : save_of (codes "@1\nMOV UP, DOWN\nJUMP\n") plain_tiles ≡ Err (Asm 1 (BadLine 2))
-unfolding save_of digits
-bad_code = refl
-
--- code before the first head
-stray_code : save_of (codes "\nMOV UP, DOWN\n@1\n") plain_tiles ≡ Err (StrayCode 2)
-unfolding save_of digits
-stray_code = refl
-
--- a head of no tile
-bad_head : save_of (codes "@12\nMOV UP, DOWN\n") plain_tiles ≡ Err (BadHead 1)
-unfolding save_of digits
-bad_head = refl
-
--- a head that stands twice
-repeated_block : save_of (codes "@1\nMOV UP, DOWN\n\n@1\n") plain_tiles ≡ Err (RepeatedBlock 4)
-unfolding save_of digits
-repeated_block = refl

@@ -1,58 +1,80 @@
 -- What the store told, and what follows for the status.
-use Rattle.std.proofs.Common.{◌≡◌, ℕ, List, Option, Some, None, option_map, refl, sym, ap, subst, ◌∙◌}
+use Rattle.std.proofs.Common.{◌≡◌, ℕ, List, [], ◌∷◌, Option, Some, None, option_map, refl, sym, ap, subst, ◌∙◌}
 use Rattle.std.specs.Prelude.{IfSome, Ok}
 use Rattle.tis_base.specs.Outside.{Texts, text_at, with_text}
 use Rattle.tis_cli.specs.declared.status.Refusal.TheVariants.{NotThisForm}
 use Rattle.tis_cli.specs.declared.net_syntax.tree.NetError.{NetError}
 use Rattle.tis_cli.specs.declared.net_syntax.tree.NetError.TheVariants as unread
-use Rattle.tis_cli.specs.Commands.{net_status}
+use Rattle.tis_cli.specs.Statuses.{net_status, store_status}
+use Rattle.tis_cli.specs.Answers.{Finished}
+use Rattle.tis_cli.specs.Commands.{Compile, IsCompiled}
 use Rattle.tis_cli.specs.Net.{Net}
 use Rattle.tis_cli.specs.Column.{column_net, NetOf}
 use Rattle.tis_cli.specs.Compiled.{compiled}
-use Rattle.tis_cli.specs.Saves.{save_text, save_of}
-use Rattle.tis_cli.specs.Outcomes.{IsRefused, Saved, Explains}
+use Rattle.tis_save.specs.Writing.{save_text}
+use Rattle.tis_save.specs.Reading.{save_of}
+use Rattle.tis_cli.specs.Outcomes.{texts_under, with_first, Outside, IsRefused, IsDone, Explains}
 use Rattle.tis_cli.proofs.Columns.{net_carries}
-use Rattle.tis_cli.proofs.ColumnPrograms.{column_are_programs, column_values}
-use Rattle.tis_cli.proofs.SavesReadBack.{saves_read_back}
+use Rattle.tis_cli.proofs.ColumnPrograms.{column_are_programs, column_is_sound}
+use Rattle.tis_save.proofs.SavesReadBack.{saves_read_back}
 
 -- what a store told of its texts, where it told them
-told_is : (told : Option Texts) (P : Texts → Type 0) → IfSome told P → (texts : Texts) → told ≡ Some texts → P texts
+pub told_is : (told : Option Texts) (P : Texts → Type 0) → IfSome told P → (texts : Texts) → told ≡ Some texts → P texts
 told_is None P h texts is = absurd cc
 told_is (Some other) P h texts is = let same : other ≡ texts = cc in subst P same h
 
--- a text that was fetched and is no network is refused
-pub refusal_explained : (told : Option Texts) (name text seen : List ℕ) → IfSome told (λ texts. text_at texts name ≡ Some text) → seen ≡ text → ((net : Net) → NetOf seen net → ⊥)
-    → (texts : Texts) → told ≡ Some texts → (x : List ℕ) × (text_at texts name ≡ Some x) × IsRefused x NotThisForm
-refusal_explained told name text seen fetched same none texts is = (
-  text,
-  told_is told (λ (t : Texts). text_at t name ≡ Some text) fetched texts is,
-  record { no_network = λ net of. none net (subst (λ (t : List ℕ). NetOf t net) (sym same) of); form = refl },
-)
+-- one text that is there
+one_stands : (texts : Texts) (name text : List ℕ) → text_at texts name ≡ Some text → texts_under texts (name ∷ []) ≡ Some (text ∷ [])
+one_stands texts name text stands = ap (λ (first : Option (List ℕ)). with_first first (Some [])) stands
+
+-- and one that isn't
+pub one_missing : (texts : Texts) (name : List ℕ) → text_at texts name ≡ None → texts_under texts (name ∷ []) ≡ None
+one_missing texts name none = ap (λ (first : Option (List ℕ)). with_first first (Some [])) none
 
 -- the save of a network's programs is read as these programs
 net_reads_back : (text : List ℕ) (net : Net) → NetOf text net → save_of (save_text (compiled net)) net.tiles ≡ Ok (compiled net)
 net_reads_back text net of =
     subst (λ (n : Net). save_of (save_text (compiled n)) n.tiles ≡ Ok (compiled n)) (sym of.net_is)
-    (saves_read_back (compiled (column_net of.column)) (record { allowed = (refl, refl); filled = refl }) (column_are_programs of.column of.is_column) (column_values of.column of.is_column))
+    (saves_read_back (compiled (column_net of.column)) (record { allowed = (refl, refl); filled = refl }) (column_are_programs of.column of.is_column) (column_is_sound of.column))
 
--- a text that was fetched and is a network is compiled: its save was kept
-pub saved_explained : (told between new : Option Texts) (name save text seen bytes : List ℕ) (net : Net) → IfSome told (λ texts. text_at texts name ≡ Some text) → seen ≡ text → NetOf seen net
-    → bytes ≡ save_text (compiled net) → between ≡ told → new ≡ option_map (λ texts. with_text texts save bytes) between
-    → (texts : Texts) → told ≡ Some texts → Saved name save texts new
-saved_explained told between new name save text seen bytes net fetched same of written stayed kept texts is =
-    let is_net : NetOf text net = subst (λ (t : List ℕ). NetOf t net) same of in
+-- the save of a network is all that is promised of it
+compiled_as_promised : (text bytes : List ℕ) (net : Net) → NetOf text net → bytes ≡ save_text (compiled net) → IsCompiled (text ∷ []) bytes
+compiled_as_promised text bytes net of written =
     record {
       text = text;
       net = net;
-      stands = told_is told (λ (t : Texts). text_at t name ≡ Some text) fetched texts is;
-      is_net = is_net;
-      kept = kept ∙ ap (option_map (λ (t : Texts). with_text t save bytes)) (stayed ∙ is) ∙ ap (λ (b : List ℕ). Some (with_text texts save b)) written;
-      reads_back = net_reads_back text net is_net;
-      carries = net_carries text net is_net;
+      is_text = refl;
+      is_net = of;
+      saved = written;
+      reads_back = ap (λ (b : List ℕ). save_of b net.tiles) written ∙ net_reads_back text net of;
+      carries = net_carries text net of;
     }
 
--- a text that was fetched and isn't read as a network
-pub unread_explained : (told new : Option Texts) (name save text seen : List ℕ) (error : NetError) → IfSome told (λ texts. text_at texts name ≡ Some text) → seen ≡ text
-    → (error ≡ unread.NotThisForm → (net : Net) → NetOf seen net → ⊥) → Explains told name save (net_status error) new
-unread_explained told new name save text seen unread.NotThisForm fetched same none = refusal_explained told name text seen fetched same (none refl)
-unread_explained told new name save text seen unread.NoMemory fetched same none = tt
+module _ (told : Option Texts) (name save text seen : List ℕ) (fetched : IfSome told (λ texts. text_at texts name ≡ Some text)) (same : seen ≡ text) where
+  -- the text under the name of the network
+  stands : (texts : Texts) → told ≡ Some texts → texts_under texts (name ∷ []) ≡ Some (text ∷ [])
+  stands texts is = one_stands texts name text (told_is told (λ (t : Texts). text_at t name ≡ Some text) fetched texts is)
+
+  -- a text that was fetched and is no network is refused
+  refusal_explained : ((net : Net) → NetOf seen net → ⊥) → (texts : Texts) → told ≡ Some texts → IsRefused (Compile name save) texts NotThisForm
+  refusal_explained none texts is =
+      record { found = text ∷ []; stand = stands texts is; comes = (λ net of. none net (subst (λ (t : List ℕ). NetOf t net) (sym same) of), refl) }
+
+  -- a text that was fetched and isn't read as a network
+  pub unread_explained : (written : Option (List ℕ)) (after : Outside) (error : NetError) → (error ≡ unread.NotThisForm → (net : Net) → NetOf seen net → ⊥) → Explains (Compile name save) told written (net_status error) after
+  unread_explained written after unread.NotThisForm none = refusal_explained (none refl)
+  unread_explained written after unread.NoMemory none = tt
+
+  -- a text that was fetched and is a network is compiled: its save was kept
+  pub saved_explained : (between new : Option Texts) (bytes : List ℕ) (net : Net) → NetOf seen net → bytes ≡ save_text (compiled net) → between ≡ told → new ≡ option_map (λ texts. with_text texts save bytes) between →
+      (written : Option (List ℕ)) (texts : Texts) → told ≡ Some texts → IsDone (Compile name save) texts written (record { texts = new; written = written })
+  saved_explained between new bytes net of is_save stayed kept written texts is =
+      let is_net : NetOf text net = subst (λ (t : List ℕ). NetOf t net) same of in
+      record {
+        found = text ∷ [];
+        bytes = bytes;
+        stand = stands texts is;
+        comes = (net, is_net, refl, is_save);
+        arrives = (kept ∙ ap (option_map (λ (t : Texts). with_text t save bytes)) (stayed ∙ is), refl);
+        promised = compiled_as_promised text bytes net is_net is_save;
+      }

@@ -1,11 +1,11 @@
 -- The laws of every grid, as one premise.
-use Rattle.tis_grid.proofs.Grids.{start_fits, events_keep_fitting, orders_are_runs, links_pass_all, inputs_pass_all, outputs_pass_all, steps_count_events}
-use Rattle.tis_grid.specs.Laws.{StartFits, EventsKeepFitting, OrdersAreRuns, LinksPassAll, InputsPassAll, OutputsPassAll, StepsCountEvents}
+use Rattle.tis_grid.proofs.Grids.{start_fits, orders_keep_fitting, orders_are_runs, links_pass_all, inputs_pass_all, outputs_pass_all, steps_count_events}
+use Rattle.tis_grid.specs.Laws.{StartFits, OrdersKeepFitting, OrdersAreRuns, LinksPassAll, InputsPassAll, OutputsPassAll, StepsCountEvents}
 
 -- the laws of every grid
 pub record GridLaws : Type 0 where
   pub start_fits : StartFits
-  pub events_keep_fitting : EventsKeepFitting
+  pub orders_keep_fitting : OrdersKeepFitting
   pub orders_are_runs : OrdersAreRuns
   pub links_pass_all : LinksPassAll
   pub inputs_pass_all : InputsPassAll
@@ -16,7 +16,7 @@ pub record GridLaws : Type 0 where
 pub every_grid : GridLaws
 every_grid = record {
   start_fits = start_fits;
-  events_keep_fitting = events_keep_fitting;
+  orders_keep_fitting = orders_keep_fitting;
   orders_are_runs = orders_are_runs;
   links_pass_all = links_pass_all;
   inputs_pass_all = inputs_pass_all;

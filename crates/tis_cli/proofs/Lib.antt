@@ -5,14 +5,15 @@ pub mod BodyLines
 pub mod Distinct
 pub mod Spelling
 pub mod Found
-pub mod Blocks
 pub mod Emitted
 pub mod Explained
 pub mod Statuses
 pub mod GridLaws
+pub mod Stage
 pub mod PassStage
 pub mod Pipeline
 pub mod Bodies
+pub mod Fuel
 pub mod Rounds
 pub mod Instructions
 pub mod Places
@@ -22,7 +23,5 @@ pub mod ColumnKahn
 pub mod BodyValues
 pub mod ColumnPrograms
 pub mod Columns
-pub mod SaveLines
-pub mod SavesReadBack
 pub mod Examples
 mod StreamExamples

@@ -1,6 +1,6 @@
 -- Stages that stand one below the other carry what all of them make, whatever the order of the events.
-use Rattle.std.proofs.Common.{◌≡◌, ◌≢◌, ℕ, zero, suc, ◌+◌, ◌-◌, ◌*◌, ◌<◌, ◌≤◌, ℤ, List, [], ◌∷◌, ◌++◌, length, replicate, get_or, Some, refl, sym, ap, subst, subst₂, ◌∙◌, inl, inr, append-nil, le_trans, arith}
-use Rattle.std.specs.Prelude.{IsTrue}
+use Rattle.std.proofs.Common.{◌≡◌, ◌≢◌, ℕ, zero, suc, ◌+◌, ◌-◌, ◌*◌, ◌<◌, ◌≤◌, ℤ, List, [], ◌∷◌, ◌++◌, length, replicate, get_or, true, false, cond, Option, Some, None, unwrap_or, refl, sym, ap, subst, subst₂, ◌∙◌, inl, inr, append-nil, le_trans, arith}
+use Rattle.std.specs.Prelude.{Bool, IsTrue, ◌==◌, ◌||◌}
 use Rattle.std.specs.List.{range_with_len}
 use Rattle.std.proofs.lemmas.Bool.{cases_lt}
 use Rattle.std.proofs.lemmas.List.{get_or_past, drop_all}
@@ -17,13 +17,14 @@ use Rattle.tis_asm.proofs.Passing.{empty_programs_rest}
 use Rattle.tis_asm.proofs.Counting.{steps_add_up}
 use Rattle.tis_grid.specs.declared.event.Event.{Event}
 use Rattle.tis_grid.specs.declared.event.Event.TheVariants.{Local, Meet, In, Out}
-use Rattle.tis_grid.specs.Puzzle.{HasOutput, values_at}
-use Rattle.tis_grid.specs.State.{Grid, IsGrid, State, node_at, left_at, outs, start}
-use Rattle.tis_grid.specs.Events.{program_of, next_tile, bottom_of, Wants, Offers, after_event}
-use Rattle.tis_grid.specs.Orders.{Fits, after, IsLegal, IsAtRest}
+use Rattle.tis_grid.specs.Puzzle.{Puzzle, Input, HasOutput, has_input, has_output, values_at}
+use Rattle.tis_grid.specs.State.{Grid, IsGrid, State, node_at, left_at, outs, whole_input, empty_output, start}
+use Rattle.tis_grid.specs.Events.{program_of, next_tile, bottom_of}
+use Rattle.tis_grid.specs.Orders.{after, IsAtRest}
 use Rattle.tis_grid.specs.TileSteps.{steps_of, values_left}
 use Rattle.tis_grid.specs.Laws.{IsOrder}
-use Rattle.tis_cli.specs.Stage.{Next, GoesOn, WaitsAbove, GivesBelow, WorksAs, Stage, made_by, most_steps, StandsOn, below, StandDown, IsAmong, IsPipeline, FollowsPipeline}
+use Rattle.tis_grid.proofs.Enabled.{Wants, Offers, enabled_from}
+use Rattle.tis_cli.proofs.Stage.{Next, GoesOn, WaitsAbove, GivesBelow, WorksAs, Stage, made_by, most_steps, StandsOn, below, StandDown, IsAmong, IsPipeline, FollowsPipeline}
 use Rattle.tis_cli.proofs.GridLaws.{GridLaws}
 
 -- ---- lists
@@ -70,18 +71,39 @@ steps_of_stage stage steps node count works few =
 
 -- ---- states of the grid
 
--- the state after legal events is a state of the grid
-after_fits : (laws : GridLaws) (grid : Grid) (state : State) (events : List Event) → IsGrid grid → Fits grid state → IsLegal grid state events → Fits grid (after grid state events)
-after_fits laws grid state [] is_grid fits legal = fits
-after_fits laws grid state (event ∷ events) is_grid fits legal = after_fits laws grid (after_event grid state event) events is_grid (laws.events_keep_fitting grid state event is_grid fits legal.0) legal.1
+-- where no input stands there are no values
+no_values : (inputs : List Input) (position : ℕ) → has_input inputs position ≡ false → length (values_at inputs position) ≡ 0
+no_values [] position none = refl
+no_values (input ∷ inputs) position none =
+    elim (input.position == position) as (λ here. here || has_input inputs position ≡ false → length (cond here input.values (values_at inputs position)) ≡ 0) [
+      | true ↦ λ is. absurd cc
+      | false ↦ λ is. no_values inputs position is
+    ] none
+
+-- at the start all values are left
+whole_left : (puzzle : Puzzle) (position : ℕ) → unwrap_or (whole_input puzzle position) 0 ≡ length (values_at puzzle.inputs position)
+whole_left puzzle position =
+    elim (has_input puzzle.inputs position) as (λ stands. has_input puzzle.inputs position ≡ stands → unwrap_or (cond stands (Some (length (values_at puzzle.inputs position))) None) 0 ≡ length (values_at puzzle.inputs position)) [
+      | true ↦ λ is. refl
+      | false ↦ λ is. sym (no_values puzzle.inputs position is)
+    ] refl
 
 -- what is left of an input at the start is all of it
 left-start : (grid : Grid) (position : ℕ) → position < grid.puzzle.tiles.shape.columns → values_left grid (start grid) position ≡ values_at grid.puzzle.inputs position
 left-start grid position inside =
     let values = values_at grid.puzzle.inputs position in
-    let all : left_at (start grid) position ≡ length values = get_or-map-range_with_len (λ (p : ℕ). length (values_at grid.puzzle.inputs p)) 0 grid.puzzle.tiles.shape.columns position position 0 inside (omega arith) in
+    let all : left_at (start grid) position ≡ length values = ap (λ (o : Option ℕ). unwrap_or o 0) (get_or-map-range_with_len (λ (p : ℕ). whole_input grid.puzzle p) 0 grid.puzzle.tiles.shape.columns position position None inside (omega arith)) ∙ whole_left grid.puzzle position in
     let none : length values - left_at (start grid) position ≡ 0 = omega arith in
     rw none refl
+
+-- no output has a value at the start
+nothing_out : (test : Bool) → unwrap_or {T = List ℤ} (cond test (Some []) None) [] ≡ []
+nothing_out true = refl
+nothing_out false = refl
+
+none-start : (grid : Grid) (position : ℕ) → position < grid.puzzle.tiles.shape.columns → outs (start grid) position ≡ []
+none-start grid position inside =
+    ap (λ (o : Option (List ℤ)). unwrap_or o []) (get_or-map-range_with_len (λ (p : ℕ). empty_output grid.puzzle p) 0 grid.puzzle.tiles.shape.columns position position None inside (omega arith)) ∙ nothing_out (has_output grid.puzzle.outputs position)
 
 -- the head of stages that stand one below the other
 head_stands : (grid : Grid) (position tile : ℕ) (stage : Stage) (stages : List Stage) → StandDown grid position tile stage stages → StandsOn grid tile stage
@@ -90,45 +112,45 @@ head_stands grid position tile stage (next ∷ stages) stand = stand.0
 
 -- a stage with nothing left to do, at rest, waits for a value from above
 waits_above : (grid : Grid) (state : State) (tile : ℕ) (program : List MarkedInstr) → IsCompute grid.puzzle.tiles tile → program_of grid tile ≡ program → Next program (node_at state tile) → IsAtRest grid state → (Offers grid state tile Down → ⊥) → Wants grid state tile Up
-waits_above grid state tile program compute same (GoesOn can) rest never_gives = absurd (rest (Local (record { number = tile })) (compute, rw same can))
+waits_above grid state tile program compute same (GoesOn can) rest never_gives = absurd (rest (Local (record { number = tile })) (enabled_from grid state (Local (record { number = tile })) (compute, rw same can)))
 waits_above grid state tile program compute same (WaitsAbove waits) rest never_gives = record { compute = compute; wants = rw same waits }
 waits_above grid state tile program compute same (GivesBelow value gives) rest never_gives = absurd (never_gives (record { compute = compute; value = value; offers = gives }))
 
 -- what holds of every legal order from the start
-module _ (laws : GridLaws) (grid : Grid) (events : List Event) (is_grid : IsGrid grid) (legal : IsLegal grid (start grid) events) where
+module _ (laws : GridLaws) (grid : Grid) (events : List Event) (end : State) (is_grid : IsGrid grid) (leads : after grid (start grid) events ≡ Some end) where
   -- the order, as the laws take it
-  order : IsOrder grid (start grid) events
-  order = record { is_grid = is_grid; fits = laws.start_fits grid is_grid; legal = legal }
+  order : IsOrder grid (start grid) events end
+  order = record { is_grid = is_grid; fits = laws.start_fits grid is_grid; leads = leads }
 
   -- a stage on a tile works as its function
-  tile_works : (tile : ℕ) (stage : Stage) → StandsOn grid tile stage → WorksAs stage.program stage.makes stage.most_local (steps_of grid (start grid) events tile) (node_at (after grid (start grid) events) tile)
+  tile_works : (tile : ℕ) (stage : Stage) → StandsOn grid tile stage → WorksAs stage.program stage.makes stage.most_local (steps_of grid (start grid) events tile) (node_at end tile)
   tile_works tile stage stands =
-      let run = laws.orders_are_runs grid (start grid) events order tile in
+      let run = laws.orders_are_runs grid (start grid) events end order tile in
       run_works (program_of grid tile) stage (node_at (start grid) tile) _ (steps_of grid (start grid) events tile) stands.program (get_or-replicate_self (length grid.puzzle.tiles.kinds) tile fresh) run.0 run.1
 
   -- a tile without instructions makes no step
   tile_rests : (tile : ℕ) → program_of grid tile ≡ [] → steps_of grid (start grid) events tile ≡ []
   tile_rests tile is_empty =
-      let run = laws.orders_are_runs grid (start grid) events order tile in
+      let run = laws.orders_are_runs grid (start grid) events end order tile in
       run_rests (program_of grid tile) (node_at (start grid) tile) (steps_of grid (start grid) events tile) is_empty (get_or-replicate_self (length grid.puzzle.tiles.kinds) tile fresh) run.0
 
   -- an output has what the tile above it gave downwards
-  output_is : (position : ℕ) → position < grid.puzzle.tiles.shape.columns → outs (after grid (start grid) events) position ≡ given_to Down (steps_of grid (start grid) events (bottom_of grid position))
+  output_is : (position : ℕ) → position < grid.puzzle.tiles.shape.columns → outs end position ≡ given_to Down (steps_of grid (start grid) events (bottom_of grid position))
   output_is position inside =
-      let none : outs (start grid) position ≡ [] = get_or-replicate_self grid.puzzle.tiles.shape.columns position [] in
-      laws.outputs_pass_all grid (start grid) events order position inside ∙ ap (λ (had : List ℤ). had ++ given_to Down (steps_of grid (start grid) events (bottom_of grid position))) none
+      let none = none-start grid position inside in
+      laws.outputs_pass_all grid (start grid) events end order position inside ∙ ap (λ (had : List ℤ). had ++ given_to Down (steps_of grid (start grid) events (bottom_of grid position))) none
 
   -- the output of the last stage
-  last_output : (position tile : ℕ) → position < grid.puzzle.tiles.shape.columns → tile ≡ bottom_of grid position → outs (after grid (start grid) events) position ≡ given_to Down (steps_of grid (start grid) events tile)
+  last_output : (position tile : ℕ) → position < grid.puzzle.tiles.shape.columns → tile ≡ bottom_of grid position → outs end position ≡ given_to Down (steps_of grid (start grid) events tile)
   last_output position tile inside at_bottom = output_is position inside ∙ ap (λ (t : ℕ). given_to Down (steps_of grid (start grid) events t)) (sym at_bottom)
 
   -- what a tile gave downwards is what the tile below it took
   passed_down : (tile : ℕ) (stage next : Stage) → StandsOn grid tile stage → next_tile grid tile Down ≡ Some (below grid tile) → StandsOn grid (below grid tile) next → given_to Down (steps_of grid (start grid) events tile) ≡ taken_from Up (steps_of grid (start grid) events (below grid tile))
-  passed_down tile stage next stands is_next stands_below = laws.links_pass_all grid (start grid) events order tile Down (below grid tile) is_next stands.compute stands_below.compute
+  passed_down tile stage next stands is_next stands_below = laws.links_pass_all grid (start grid) events end order tile Down (below grid tile) is_next stands.compute stands_below.compute
 
   -- the output is a prefix of what the stages make of what the first of them took
   output_prefix : (position tile : ℕ) (stage : Stage) (stages : List Stage) → position < grid.puzzle.tiles.shape.columns → StandDown grid position tile stage stages →
-      IsPrefixOf (outs (after grid (start grid) events) position) (made_by (stage ∷ stages) (taken_from Up (steps_of grid (start grid) events tile)))
+      IsPrefixOf (outs end position) (made_by (stage ∷ stages) (taken_from Up (steps_of grid (start grid) events tile)))
   output_prefix position tile stage [] inside stand =
       prefix_trans _ _ _ (prefix_refl _ _ (last_output position tile inside stand.1)) (tile_works tile stage stand.0).prefix
   output_prefix position tile stage (next ∷ stages) inside stand =
@@ -139,39 +161,39 @@ module _ (laws : GridLaws) (grid : Grid) (events : List Event) (is_grid : IsGrid
 
   -- the first stage waits for a value from above, and the output has all that the stages make of what it took
   record Settled (position tile : ℕ) (stages : List Stage) : Type 0 where
-    waits : Wants grid (after grid (start grid) events) tile Up
-    whole : outs (after grid (start grid) events) position ≡ made_by stages (taken_from Up (steps_of grid (start grid) events tile))
+    waits : Wants grid end tile Up
+    whole : outs end position ≡ made_by stages (taken_from Up (steps_of grid (start grid) events tile))
 
   -- a stage that waits has given all that it makes of what it took
-  gave_all : (tile : ℕ) (stage : Stage) → StandsOn grid tile stage → Wants grid (after grid (start grid) events) tile Up → given_to Down (steps_of grid (start grid) events tile) ≡ stage.makes (taken_from Up (steps_of grid (start grid) events tile))
-  gave_all tile stage stands waits = (tile_works tile stage stands).whole (subst (λ (p : List MarkedInstr). IsTrue (wants p (node_at (after grid (start grid) events) tile) Up)) stands.program waits.wants)
+  gave_all : (tile : ℕ) (stage : Stage) → StandsOn grid tile stage → Wants grid end tile Up → given_to Down (steps_of grid (start grid) events tile) ≡ stage.makes (taken_from Up (steps_of grid (start grid) events tile))
+  gave_all tile stage stands waits = (tile_works tile stage stands).whole (subst (λ (p : List MarkedInstr). IsTrue (wants p (node_at end tile) Up)) stands.program waits.wants)
 
   -- at rest each stage waits, from the output upwards
   settled : (position tile : ℕ) (stage : Stage) (stages : List Stage) → position < grid.puzzle.tiles.shape.columns → HasOutput grid.puzzle.outputs position → StandDown grid position tile stage stages →
-      IsAtRest grid (after grid (start grid) events) → Settled position tile (stage ∷ stages)
+      IsAtRest grid end → Settled position tile (stage ∷ stages)
   settled position tile stage [] inside has stand rest =
-      let never_gives = λ (gives : Offers grid (after grid (start grid) events) tile Down). rest (Out position) (inside, has, subst (λ (t : ℕ). Offers grid (after grid (start grid) events) t Down) stand.1 gives) in
-      let waits = waits_above grid (after grid (start grid) events) tile stage.program stand.0.compute stand.0.program (tile_works tile stage stand.0).next rest never_gives in
+      let never_gives = λ (gives : Offers grid end tile Down). rest (Out position) (enabled_from grid end (Out position) (inside, has, subst (λ (t : ℕ). Offers grid end t Down) stand.1 gives)) in
+      let waits = waits_above grid end tile stage.program stand.0.compute stand.0.program (tile_works tile stage stand.0).next rest never_gives in
       record { waits = waits; whole = last_output position tile inside stand.1 ∙ gave_all tile stage stand.0 waits }
   settled position tile stage (next ∷ stages) inside has stand rest =
       let later = settled position (below grid tile) next stages inside has stand.2 rest in
-      let never_gives = λ (gives : Offers grid (after grid (start grid) events) tile Down). rest (Meet (record { number = tile }) Down) (below grid tile, stand.1, gives, later.waits) in
-      let waits = waits_above grid (after grid (start grid) events) tile stage.program stand.0.compute stand.0.program (tile_works tile stage stand.0).next rest never_gives in
+      let never_gives = λ (gives : Offers grid end tile Down). rest (Meet (record { number = tile }) Down) (enabled_from grid end (Meet (record { number = tile }) Down) (below grid tile, stand.1, gives, later.waits)) in
+      let waits = waits_above grid end tile stage.program stand.0.compute stand.0.program (tile_works tile stage stand.0).next rest never_gives in
       let link = passed_down tile stage next stand.0 stand.1 (head_stands grid position (below grid tile) next stages stand.2) in
       record { waits = waits; whole = later.whole ∙ ap (made_by (next ∷ stages)) (sym link ∙ gave_all tile stage stand.0 waits) }
 
   -- what the first stage took is a prefix of the input
   took_prefix : (position : ℕ) → position < grid.puzzle.tiles.shape.columns → IsPrefixOf (taken_from Up (steps_of grid (start grid) events position)) (values_at grid.puzzle.inputs position)
-  took_prefix position inside = (values_left grid (after grid (start grid) events) position, sym (laws.inputs_pass_all grid (start grid) events order position inside) ∙ left-start grid position inside)
+  took_prefix position inside = (values_left grid end position, sym (laws.inputs_pass_all grid (start grid) events end order position inside) ∙ left-start grid position inside)
 
   -- at rest, where the first stage waits, it took the whole input
-  took_all : (position : ℕ) → position < grid.puzzle.tiles.shape.columns → IsAtRest grid (after grid (start grid) events) → Wants grid (after grid (start grid) events) position Up → taken_from Up (steps_of grid (start grid) events position) ≡ values_at grid.puzzle.inputs position
+  took_all : (position : ℕ) → position < grid.puzzle.tiles.shape.columns → IsAtRest grid end → Wants grid end position Up → taken_from Up (steps_of grid (start grid) events position) ≡ values_at grid.puzzle.inputs position
   took_all position inside rest waits =
       let values = values_at grid.puzzle.inputs position in
-      let left = left_at (after grid (start grid) events) position in
-      let passed = laws.inputs_pass_all grid (start grid) events order position inside in
-      let none_left : left ≤ 0 = elim (cases_lt 0 left) [ inl some ↦ absurd (rest (In position) (inside, some, waits)) | inr none ↦ none ] in
-      let rest_is : values_left grid (after grid (start grid) events) position ≡ [] = drop_all (length values - left) values (omega arith) in
+      let left = left_at end position in
+      let passed = laws.inputs_pass_all grid (start grid) events end order position inside in
+      let none_left : left ≤ 0 = elim (cases_lt 0 left) [ inl some ↦ absurd (rest (In position) (enabled_from grid end (In position) (inside, some, waits))) | inr none ↦ none ] in
+      let rest_is : values_left grid end position ≡ [] = drop_all (length values - left) values (omega arith) in
       let taken = taken_from Up (steps_of grid (start grid) events position) in
       sym (append-nil taken) ∙ ap (λ (more : List ℤ). taken ++ more) (sym rest_is) ∙ sym passed ∙ left-start grid position inside
 
@@ -196,13 +218,13 @@ module _ (laws : GridLaws) (grid : Grid) (events : List Event) (is_grid : IsGrid
       ]
 
   -- past the columns there is no output
-  no_output : (position : ℕ) → grid.puzzle.tiles.shape.columns ≤ position → outs (after grid (start grid) events) position ≡ []
+  no_output : (position : ℕ) → grid.puzzle.tiles.shape.columns ≤ position → outs end position ≡ []
   no_output position outside =
-      let fits = after_fits laws grid (start grid) events is_grid order.fits legal in
-      get_or_past (after grid (start grid) events).outs position [] (omega (arith, fits.outs))
+      let fits = laws.orders_keep_fitting grid (start grid) events end order in
+      ap (λ (o : Option (List ℤ)). unwrap_or o []) (get_or_past end.outs position None (omega (arith, fits.outs)))
 
   -- other outputs have no value
-  others_empty : (position : ℕ) (stage : Stage) (stages : List Stage) → IsPipeline grid position stage stages → (other : ℕ) → other ≢ position → outs (after grid (start grid) events) other ≡ []
+  others_empty : (position : ℕ) (stage : Stage) (stages : List Stage) → IsPipeline grid position stage stages → (other : ℕ) → other ≢ position → outs end other ≡ []
   others_empty position stage stages stack other apart =
       elim (cases_lt other grid.puzzle.tiles.shape.columns) [
         | inl inside ↦ output_is other inside ∙ ap (given_to Down) (tile_rests (bottom_of grid other) (stack.other_bottoms other inside apart))
@@ -226,10 +248,10 @@ module _ (laws : GridLaws) (grid : Grid) (events : List Event) (is_grid : IsGrid
       let tiles = range_with_len 0 (length grid.puzzle.tiles.kinds) in
       let all : length tiles ≡ length grid.puzzle.tiles.kinds = length-range_with_len 0 (length grid.puzzle.tiles.kinds) in
       let sum = sum_by-le (λ (tile : ℕ). length (steps_of grid (start grid) events tile)) most tiles (λ k d inside. each_tile position stage stages stack (get_or tiles k d)) in
-      subst (λ (count : ℕ). length events ≤ count * most) all (le_trans (laws.steps_count_events grid (start grid) events order) sum)
+      subst (λ (count : ℕ). length events ≤ count * most) all (le_trans (laws.steps_count_events grid (start grid) events end order) sum)
 
   -- a legal order from the start follows the stages
-  pub follows_stack : (position : ℕ) (stage : Stage) (stages : List Stage) → IsPipeline grid position stage stages → FollowsPipeline grid position (stage ∷ stages) events
+  pub follows_stack : (position : ℕ) (stage : Stage) (stages : List Stage) → IsPipeline grid position stage stages → FollowsPipeline grid position (stage ∷ stages) events end
   follows_stack position stage stages stack =
       record {
         prefix = prefix_trans _ _ _ (output_prefix position position stage stages stack.inside stack.stand) (made_by-prefix (stage ∷ stages) _ _ (took_prefix position stack.inside));

@@ -12,9 +12,9 @@ use Rattle.tis_asm.proofs.Passing.{chosen, is_same_dir-true, is_same_dir-other}
 use Rattle.tis_cli.specs.Net.{Name, X, Statement, Get, Move}
 use Rattle.tis_cli.specs.Column.{IsOperation, SendsOn}
 use Rattle.tis_cli.specs.Compiled.{code_of}
-use Rattle.tis_cli.specs.Stage.{Next, GoesOn, WaitsAbove, GivesBelow}
+use Rattle.tis_cli.proofs.Stage.{Next, GoesOn, WaitsAbove, GivesBelow}
 use Rattle.tis_cli.proofs.Bodies.{Rest, Last, Then, Round, Moves, Computes, operate, sent_by, value_sent, round_value, round_local}
-use Rattle.tis_cli.proofs.Instructions.{instr_here, next-on, next-first, IsInner, inner-operation, inner-sends, step_in, operation_leads, sends_leads, known_step, instr_of, IsStepIn, after_in}
+use Rattle.tis_cli.proofs.Instructions.{instr_here, next-on, next-first, IsInner, inner-operation, inner-sends, waits_in, waits_out, local_out, step_in, operation_leads, sends_leads, known_step, instr_of, IsStepIn, after_in}
 
 -- ---- places
 
@@ -43,13 +43,13 @@ gives_down : (value : ℤ) (dir : Dir) → dir ≢ Down → given_by dir (Gave D
 gives_down value dir apart = rw (is_same_dir-other Down dir (λ e. apart (sym e))) refl
 
 -- a step from the top of a round that moves a value
-top_moves : (read written : Name) (node : Node) → node.pc ≡ 0 → (step : Step) → IsStepIn Ready (instr_of (Move read written)) step →
+top_moves : (read written : Name) (node : Node) → node.pc ≡ 0 → (step : Step) → IsStepIn Ready (instr_of (Move read written)) node step →
     StepsTo written (Move read written ∷ []) (λ value. value) 0 [] 0 step (after_in (instr_of (Move read written)) (code_of (Move read written ∷ [])) node step)
 top_moves read written node at_first Local can = absurd (cc can)
 top_moves read written node at_first (Gave dir value) can = absurd (cc can)
 top_moves read written node at_first (Took dir value) can =
     let body = Move read written ∷ [] in
-    subst (λ (d : Dir). StepsTo written body (λ value. value) 0 [] 0 (Took d value) (record node { mode = Writing value (One Down) })) (is_same_dir-true Up dir can)
+    subst (λ (d : Dir). StepsTo written body (λ value. value) 0 [] 0 (Took d value) (record node { mode = Writing value (One Down) })) (is_same_dir-true Up dir can.0)
     (record {
       later = value ∷ [];
       to_do = 0;
@@ -66,7 +66,7 @@ rest_some (Last statement sends) = omega arith
 rest_some (Then statement rest operation later) = omega arith
 
 -- a step from the top of a round that computes
-top_computes : (read written : Name) (rest : List Statement) (view : Rest written rest) (node : Node) → node.pc ≡ 0 → (step : Step) → IsStepIn Ready (instr_of (Get read X)) step →
+top_computes : (read written : Name) (rest : List Statement) (view : Rest written rest) (node : Node) → node.pc ≡ 0 → (step : Step) → IsStepIn Ready (instr_of (Get read X)) node step →
     StepsTo written (Get read X ∷ rest) (value_sent view) (length rest) [] 0 step (after_in (instr_of (Get read X)) (code_of (Get read X ∷ rest)) node step)
 top_computes read written rest view node at_first Local can = absurd (cc can)
 top_computes read written rest view node at_first (Gave dir value) can = absurd (cc can)
@@ -74,7 +74,7 @@ top_computes read written rest view node at_first (Took dir value) can =
     let body = Get read X ∷ rest in
     let some = rest_some view in
     let leads : next_of (code_of body) node.pc ≡ 1 = next-on body node.pc (omega arith) ∙ ap (λ (pc : ℕ). pc + 1) at_first in
-    subst (λ (d : Dir). StepsTo written body (value_sent view) (length rest) [] 0 (Took d value) (goes_on (code_of body) (record node { acc = value }))) (is_same_dir-true Up dir can)
+    subst (λ (d : Dir). StepsTo written body (value_sent view) (length rest) [] 0 (Took d value) (goes_on (code_of body) (record node { acc = value }))) (is_same_dir-true Up dir can.0)
     (record {
       later = value_sent view value ∷ [];
       to_do = length rest;
@@ -86,9 +86,9 @@ top_computes read written rest view node at_first (Took dir value) can =
     })
 
 -- a step from the last statement
-last_steps : (written : Name) (body prefix : List Statement) (statement : Statement) (sends : SendsOn written statement) (value_of : ℤ → ℤ) (size : ℕ) (node : Node) → body ≡ prefix ++ statement ∷ [] → node.pc ≡ length prefix → IsInner statement → (step : Step) → IsStepIn Ready (instr_of statement) step →
+last_steps : (written : Name) (body prefix : List Statement) (statement : Statement) (sends : SendsOn written statement) (value_of : ℤ → ℤ) (size : ℕ) (node : Node) → body ≡ prefix ++ statement ∷ [] → node.pc ≡ length prefix → IsInner statement → (step : Step) → IsStepIn Ready (instr_of statement) node step →
     StepsTo written body value_of size (sent_by statement node.acc ∷ []) 1 step (after_in (instr_of statement) (code_of body) node step)
-last_steps written body prefix statement sends value_of size node is_body is_pc inner (Took dir value) can = absurd (cc (can, inner.no_port dir))
+last_steps written body prefix statement sends value_of size node is_body is_pc inner (Took dir value) can = absurd (cc (can.0, inner.no_port node dir))
 last_steps written body prefix statement sends value_of size node is_body is_pc inner (Gave dir value) can = absurd (cc can)
 last_steps written body prefix statement sends value_of size node is_body is_pc inner Local can =
     subst (λ (n : Node). StepsTo written body value_of size (sent_by statement node.acc ∷ []) 1 Local n) (sym (sends_leads written statement sends (code_of body) node))
@@ -103,9 +103,9 @@ last_steps written body prefix statement sends value_of size node is_body is_pc 
     })
 
 -- a step from an operation
-operation_steps : (written : Name) (body prefix : List Statement) (statement : Statement) (rest : List Statement) (operation : IsOperation statement) (view : Rest written rest) (value_of : ℤ → ℤ) (size : ℕ) (node : Node) → body ≡ prefix ++ statement ∷ rest → node.pc ≡ length prefix → IsInner statement → (step : Step) → IsStepIn Ready (instr_of statement) step →
+operation_steps : (written : Name) (body prefix : List Statement) (statement : Statement) (rest : List Statement) (operation : IsOperation statement) (view : Rest written rest) (value_of : ℤ → ℤ) (size : ℕ) (node : Node) → body ≡ prefix ++ statement ∷ rest → node.pc ≡ length prefix → IsInner statement → (step : Step) → IsStepIn Ready (instr_of statement) node step →
     StepsTo written body value_of size (value_sent view (operate statement node.acc) ∷ []) (length (statement ∷ rest)) step (after_in (instr_of statement) (code_of body) node step)
-operation_steps written body prefix statement rest operation view value_of size node is_body is_pc inner (Took dir value) can = absurd (cc (can, inner.no_port dir))
+operation_steps written body prefix statement rest operation view value_of size node is_body is_pc inner (Took dir value) can = absurd (cc (can.0, inner.no_port node dir))
 operation_steps written body prefix statement rest operation view value_of size node is_body is_pc inner (Gave dir value) can = absurd (cc can)
 operation_steps written body prefix statement rest operation view value_of size node is_body is_pc inner Local can =
     let some = rest_some view in
@@ -123,10 +123,10 @@ operation_steps written body prefix statement rest operation view value_of size 
     })
 
 -- a step of a node that offers a value
-offering_steps : (written : Name) (body : List Statement) (value_of : ℤ → ℤ) (size : ℕ) (held : ℤ) (instr : Option Instr) (node : Node) → node.pc + 1 ≡ length body → (step : Step) → IsStepIn (Writing held (One Down)) instr step →
+offering_steps : (written : Name) (body : List Statement) (value_of : ℤ → ℤ) (size : ℕ) (held : ℤ) (instr : Option Instr) (node : Node) → node.pc + 1 ≡ length body → (step : Step) → IsStepIn (Writing held (One Down)) instr node step →
     StepsTo written body value_of size (held ∷ []) 0 step (after_in instr (code_of body) node step)
 offering_steps written body value_of size held instr node at_last Local can = absurd (cc can)
-offering_steps written body value_of size held instr node at_last (Took dir value) can = absurd (cc can)
+offering_steps written body value_of size held instr node at_last (Took dir value) can = absurd (cc can.0)
 offering_steps written body value_of size held instr node at_last (Gave dir value) can =
     let given = chosen (is_same_dir Down dir) held value can in
     let is_down : dir ≡ Down = sym (is_same_dir-true Down dir given.0) in
@@ -219,28 +219,28 @@ pub record Stands (program : List MarkedInstr) (node : Node) (later : List ℤ) 
   pub next : Next program node
 
 -- a node that is ready
-ready_stands : (program : List MarkedInstr) (node : Node) (instr : Option Instr) (later : List ℤ) → node.mode ≡ Ready → instr_at program node.pc ≡ instr → is_local instr ≡ true → reads_from instr Up ≡ false → Stands program node later
+ready_stands : (program : List MarkedInstr) (node : Node) (instr : Option Instr) (later : List ℤ) → node.mode ≡ Ready → instr_at program node.pc ≡ instr → is_local instr node ≡ true → reads_from instr node Up ≡ false → Stands program node later
 ready_stands program node instr later is_ready is_instr local no_port =
     record {
-      waits = λ waits. let reads : reads_from instr Up ≡ true = step_in program node Ready instr is_ready is_instr (Took Up node.acc) waits in absurd (cc (reads, no_port));
+      waits = λ waits. let reads : reads_from instr node Up ≡ true = waits_in program node Ready instr is_ready is_instr Up waits in absurd (cc (reads, no_port));
       gives = λ value offers. absurd (cc (step_in program node Ready instr is_ready is_instr (Gave Down value) offers));
-      next = GoesOn (rw (is_ready, is_instr) local);
+      next = GoesOn (local_out program node Ready instr is_ready is_instr local);
     }
 
 -- a node that waits for a value
-top_stands : (program : List MarkedInstr) (node : Node) (instr : Option Instr) → node.mode ≡ Ready → instr_at program node.pc ≡ instr → reads_from instr Up ≡ true → Stands program node []
+top_stands : (program : List MarkedInstr) (node : Node) (instr : Option Instr) → node.mode ≡ Ready → instr_at program node.pc ≡ instr → reads_from instr node Up ≡ true → Stands program node []
 top_stands program node instr is_ready is_instr reads =
     record {
       waits = λ waits. refl;
       gives = λ value offers. absurd (cc (step_in program node Ready instr is_ready is_instr (Gave Down value) offers));
-      next = WaitsAbove (rw (is_ready, is_instr) reads);
+      next = WaitsAbove (waits_out program node Ready instr is_ready is_instr Up reads);
     }
 
 -- a node that offers a value
 offering_stands : (program : List MarkedInstr) (node : Node) (value : ℤ) → node.mode ≡ Writing value (One Down) → Stands program node (value ∷ [])
 offering_stands program node value writes =
     record {
-      waits = λ waits. absurd (cc (step_in program node (Writing value (One Down)) (instr_at program node.pc) writes refl (Took Up value) waits));
+      waits = λ waits. absurd (cc (waits_in program node (Writing value (One Down)) (instr_at program node.pc) writes refl Up waits));
       gives = λ other offers. let same : value ≡ other = (chosen true value other (step_in program node (Writing value (One Down)) (instr_at program node.pc) writes refl (Gave Down other) offers)).1 in ap (λ (v : ℤ). v ∷ []) same;
       next = GivesBelow value (rw writes refl);
     }
@@ -254,10 +254,10 @@ round_stands {read = read} (Computes rest view) node at_first is_ready = top_sta
 within_stands : {written : Name} {rest : List Statement} (view : Rest written rest) (body prefix : List Statement) (node : Node) (later : List ℤ) → body ≡ prefix ++ rest → node.pc ≡ length prefix → node.mode ≡ Ready → Stands (code_of body) node later
 within_stands {written = written} (Last statement sends) body prefix node later is_body is_pc is_ready =
     let inner = inner-sends written statement sends in
-    ready_stands (code_of body) node (instr_of statement) later is_ready (instr_here body prefix statement [] node.pc is_body is_pc) inner.local (inner.no_port Up)
+    ready_stands (code_of body) node (instr_of statement) later is_ready (instr_here body prefix statement [] node.pc is_body is_pc) (inner.local node) (inner.no_port node Up)
 within_stands (Then statement rest operation view) body prefix node later is_body is_pc is_ready =
     let inner = inner-operation statement operation in
-    ready_stands (code_of body) node (instr_of statement) later is_ready (instr_here body prefix statement rest node.pc is_body is_pc) inner.local (inner.no_port Up)
+    ready_stands (code_of body) node (instr_of statement) later is_ready (instr_here body prefix statement rest node.pc is_body is_pc) (inner.local node) (inner.no_port node Up)
 
 -- a node at any place
 place_stands : {read written : Name} {body : List Statement} (round : Round read written body) (node : Node) (later : List ℤ) (to_do : ℕ) → Place written body node later to_do → Stands (code_of body) node later

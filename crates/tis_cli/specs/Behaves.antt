@@ -8,16 +8,16 @@ use Rattle.tis_asm.specs.Node.{Node, fresh, wants, offers}
 use Rattle.tis_asm.specs.PortRuns.{Step, IsPortRun, after_steps, taken_from, given_to, local_count}
 use Rattle.tis_cli.specs.Net.{Name, Statement}
 use Rattle.tis_cli.specs.Column.{IsBody}
-use Rattle.tis_cli.specs.Process.{Streams, with_stream, Execution, WaitsOn, OutOfFuel, rounds, beginning}
+use Rattle.tis_cli.specs.Process.{Streams, with_stream, Execution, WaitsOn, OutOfFuel, process_run, body_cost}
 use Rattle.tis_cli.specs.Compiled.{code_of}
 
 -- these values under one name, and nothing under any other
 abbrev pub stream_of : Name → List ℤ → Streams
 stream_of name values = with_stream (λ other. []) name values
 
--- a process run over these values alone, with more rounds than it can begin
+-- a process run over these values alone, with one unit more fuel than the steps that it may take
 abbrev pub process_over : List Statement → Name → List ℤ → Execution
-process_over body read values = rounds (length values + 1) body (beginning (stream_of read values))
+process_over body read values = process_run body (stream_of read values) ((1 + length values) * body_cost body + 1)
 
 -- after these steps the node is where the process is: it took from above alone and gave downwards alone; what it gave is a prefix of what the process sent; where it wants a value the process waits for one, and all that was sent is given; where it offers a value, that is the next one that was sent; there are at most eight local steps for each step of the process
 pub record BehavesAfter (program : List MarkedInstr) (process : Execution) (read written : Name) (steps : List Step) (node : Node) : Type 0 where
@@ -29,15 +29,16 @@ pub record BehavesAfter (program : List MarkedInstr) (process : Execution) (read
   pub local : local_count steps ≤ 8 * process.state.steps
   pub within_fuel : process.outcome ≢ OutOfFuel
 
--- whatever its neighbours do, the program behaves as the process over the values that it took
-abbrev pub Behaves : List MarkedInstr → List Statement → Name → Name → Type 0
-Behaves program body read written = (steps : List Step) → IsPortRun program fresh steps → BehavesAfter program (process_over body read (taken_from Up steps)) read written steps (after_steps program fresh steps)
+-- the program has an instruction, so that its node is never stuck by itself; and whatever its neighbours do, it behaves as the process over the values that it took
+pub record Behaves (program : List MarkedInstr) (body : List Statement) (read written : Name) : Type 0 where
+  pub some : 0 < length program
+  pub after : (steps : List Step) → IsPortRun program fresh steps → BehavesAfter program (process_over body read (taken_from Up steps)) read written steps (after_steps program fresh steps)
 
 -- the code of each process of a column behaves as the process
 abbrev pub ProcessesBehave : Type 0
 ProcessesBehave = (read written : Name) (body : List Statement) → IsBody read written body → Behaves (code_of body) body read written
 
--- over any streams, with more rounds than there are values to read, a process of a column comes to wait for one more value; so its fuel is never used up
+-- over any streams, with more fuel than the steps that it may take, a process of a column comes to wait for one more value; so its fuel is never used up
 abbrev pub ProcessesWait : Type 0
-ProcessesWait = (read written : Name) (body : List Statement) → IsBody read written body → (streams : Streams) (fuel : ℕ) → length (streams read) < fuel →
-    (rounds fuel body (beginning streams)).outcome ≡ WaitsOn read
+ProcessesWait = (read written : Name) (body : List Statement) → IsBody read written body → (streams : Streams) (fuel : ℕ) → (1 + length (streams read)) * body_cost body < fuel →
+    (process_run body streams fuel).outcome ≡ WaitsOn read

@@ -1,8 +1,8 @@
 -- The streams of a network: the one solution of Kahn's equations, found in text order, since nothing is fed back.
-use Rattle.std.specs.Prelude.{ℕ, ◌+◌, ◌*◌, ℤ, List, [], ◌∷◌, ◌++◌, length, map, sum_by, ◌==◌, if◌then◌else◌}
+use Rattle.std.specs.Prelude.{ℕ, ◌+◌, ◌*◌, ◌≤◌, ℤ, List, [], ◌∷◌, ◌++◌, length, map, sum_by, ◌==◌, if◌then◌else◌}
 use Rattle.tis_grid.specs.Puzzle.{Input, values_at}
 use Rattle.tis_cli.specs.Net.{Name, PortLine, Process, Net}
-use Rattle.tis_cli.specs.Process.{Streams, with_stream, Execution, rounds, beginning, reads, cost}
+use Rattle.tis_cli.specs.Process.{Streams, with_stream, Execution, process_run, reads, cost}
 
 -- what comes in, under the name of each input
 abbrev pub input_streams : List PortLine → List Input → Streams
@@ -21,9 +21,9 @@ read_count net streams process = sum_by (λ name. if reads process.body name the
 abbrev pub step_limit : Net → Streams → Process → ℕ
 step_limit net streams process = (1 + read_count net streams process) * cost process
 
--- a process run over whole streams, with more fuel than it can use
+-- a process run over whole streams, with one unit more fuel than the steps that it may take
 abbrev pub run_of : Net → Streams → Process → Execution
-run_of net streams process = rounds (step_limit net streams process + 1) process.body (beginning streams)
+run_of net streams process = process_run process.body streams (step_limit net streams process + 1)
 
 -- the streams, and behind them what was sent
 abbrev pub joined : Streams → Streams → Streams
@@ -46,10 +46,18 @@ stream_at (port ∷ ports) streams position = if port.position == position then 
 abbrev pub kahn_at : Net → List Input → ℕ → List ℤ
 kahn_at net inputs position = stream_at net.outputs (kahn_streams net inputs) position
 
--- the steps that all processes take at most
+-- the steps that all processes take, each over the whole streams
+abbrev pub steps : Net → List Input → ℕ
+steps net inputs = sum_by (λ process. (run_of net (kahn_streams net inputs) process).state.steps) net.processes
+
+-- the steps that all processes may take
 abbrev pub step_limits : Net → List Input → ℕ
 step_limits net inputs = sum_by (step_limit net (kahn_streams net inputs)) net.processes
 
--- how long an order is at most: 128 * T * (S + T), with T tiles and S steps of the processes
+-- how long an order is at most: 128 * T * (S + T), with T tiles and S steps that the processes may take
 abbrev pub bound : Net → List Input → ℕ
 bound net inputs = 128 * length net.tiles.kinds * (step_limits net inputs + length net.tiles.kinds)
+
+-- the processes of a network take no more steps than they may
+abbrev pub StepsWithinLimits : Type 0
+StepsWithinLimits = (net : Net) (inputs : List Input) → steps net inputs ≤ step_limits net inputs

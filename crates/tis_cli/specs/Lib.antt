@@ -5,12 +5,11 @@ pub mod Reading
 pub mod NetView
 pub mod Compiled
 pub mod Emission
-pub mod Saves
+pub mod Answers
 pub mod Commands
 pub mod Process
 pub mod Kahn
 pub mod Carries
 pub mod Outcomes
-pub mod CommandView
-pub mod Stage
+pub mod Statuses
 pub mod Behaves

@@ -1,61 +1,87 @@
--- What each answer of the program says of the texts in a store.
-use Rattle.std.specs.Prelude.{◌≡◌, ◌⊎◌, List, ℕ, Option, Some, None, Result, Ok, Err, map, String, string_bytes}
+-- What each status says of the texts in a store and of what a sink was given, whatever the command is.
+use Rattle.std.specs.Prelude.{◌≡◌, ◌⊎◌, ◌++◌, List, [], ◌∷◌, ℕ, Option, Some, None, Result, Ok, Err, map, option_map, String, string_bytes}
 use Rattle.std.specs.declared.alloc.Global.{Global}
 use Rattle.tis_base.specs.Outside.{Texts, text_at, with_text}
 use Rattle.tis_cli.specs.declared.status.Status.{Status}
 use Rattle.tis_cli.specs.declared.status.Status.TheVariants.{Done, Words, Refused, Missing, StoreFault, SinkFault, NoMemory}
 use Rattle.tis_cli.specs.declared.status.Refusal.{Refusal}
-use Rattle.tis_cli.specs.declared.status.Refusal.TheVariants.{NotThisForm}
-use Rattle.tis_cli.specs.Commands.{Command, Compile, command_of}
-use Rattle.tis_cli.specs.Net.{Net}
-use Rattle.tis_cli.specs.Column.{NetOf}
-use Rattle.tis_cli.specs.Compiled.{compiled}
-use Rattle.tis_cli.specs.Carries.{Carries}
-use Rattle.tis_cli.specs.Saves.{save_text, save_of}
+use Rattle.tis_cli.specs.Answers.{Answer, Refuses, Makes, Finished, Destination, Kept, Put, answer_status}
+use Rattle.tis_cli.specs.Commands.{Command, command_of, fetched, destination_of, ComesTo, IsPromised}
 
 -- the words, each as its bytes
 abbrev pub words_of : List (String Global) → List (List ℕ)
 words_of words = map string_bytes words
 
--- the words are `compile`, the name of a network and the name of a save, and the store tells these texts
-pub record Compiles (words : List (List ℕ)) (told : Option Texts) (net save : List ℕ) (texts : Texts) : Type 0 where
-  pub command : command_of words ≡ Some (Compile net save)
+-- the words are this command, and the store tells these texts
+pub record IsCalled (words : List (List ℕ)) (told : Option Texts) (command : Command) (texts : Texts) : Type 0 where
+  pub command_is : command_of words ≡ Some command
   pub texts_told : told ≡ Some texts
 
--- the text is no network, so it is refused as one that isn't of the form that is taken so far
-pub record IsRefused (text : List ℕ) (refusal : Refusal) : Type 0 where
-  pub no_network : (net : Net) → NetOf text net → ⊥
-  pub form : refusal ≡ NotThisForm
+-- the words are a command that puts a report
+abbrev pub PutsReport : List (List ℕ) → Type 0
+PutsReport words = (command : Command) × (command_of words ≡ Some command) × (destination_of command ≡ Put)
 
--- the text under the name of the network is one, and nothing changed but that the canonical save of its programs stands under the name of the save; that save is read as these programs, and on every grid of a puzzle that fits they follow the network in every order
-pub record Saved (name save : List ℕ) (old : Texts) (new : Option Texts) : Type 0 where
-  pub text : List ℕ
-  pub net : Net
-  pub stands : text_at old name ≡ Some text
-  pub is_net : NetOf text net
-  pub kept : new ≡ Some (with_text old save (save_text (compiled net)))
-  pub reads_back : save_of (save_text (compiled net)) net.tiles ≡ Ok (compiled net)
-  pub carries : Carries (compiled net) net
+-- a text in front of others, where all are there
+abbrev pub with_first : Option (List ℕ) → Option (List (List ℕ)) → Option (List (List ℕ))
+with_first None others = None
+with_first (Some text) others = option_map (λ found. text ∷ found) others
 
--- this status, or a fault of the store or want of memory in its place
-abbrev pub IsUnlessFault : Status → Status → Type 0
-IsUnlessFault status wanted = (status ≡ wanted) ⊎ ((status ≡ StoreFault) ⊎ (status ≡ NoMemory))
+-- the texts under these names, where all are there
+abbrev pub texts_under : Texts → List (List ℕ) → Option (List (List ℕ))
+texts_under texts [] = Some []
+texts_under texts (name ∷ names) = with_first (text_at texts name) (texts_under texts names)
+
+-- the texts in a store, and what a sink tells that was written to it
+pub record Outside : Type 0 where
+  pub texts : Option Texts
+  pub written : Option (List ℕ)
+
+-- what was made has come to where it goes, and nothing else has changed
+abbrev pub Arrives : Destination → List ℕ → Texts → Option (List ℕ) → Outside → Type 0
+Arrives (Kept name) bytes texts written after = (after.texts ≡ Some (with_text texts name bytes)) × (after.written ≡ written)
+Arrives Put bytes texts written after = (after.texts ≡ Some texts) × (after.written ≡ option_map (λ before. before ++ bytes) written)
+
+-- all was done: the texts that the command fetched are there, its work over them ends and makes these bytes, they have come to where they go, and they are what is promised
+pub record IsDone (command : Command) (texts : Texts) (written : Option (List ℕ)) (after : Outside) : Type 0 where
+  pub found : List (List ℕ)
+  pub bytes : List ℕ
+  pub stand : texts_under texts (fetched command) ≡ Some found
+  pub comes : ComesTo command found (Makes Finished bytes)
+  pub arrives : Arrives (destination_of command) bytes texts written after
+  pub promised : IsPromised command found bytes
+
+-- the texts that the command fetched are there, and they or its work over them meet this refusal first
+pub record IsRefused (command : Command) (texts : Texts) (refusal : Refusal) : Type 0 where
+  pub found : List (List ℕ)
+  pub stand : texts_under texts (fetched command) ≡ Some found
+  pub comes : ComesTo command found (Refuses refusal)
+
+-- the statuses that can stand in place of any other: the store failed, memory ran out, or the sink failed that takes the report
+abbrev pub IsFault : Destination → Status → Type 0
+IsFault destination StoreFault = Unit {0}
+IsFault destination NoMemory = Unit {0}
+IsFault destination SinkFault = destination ≡ Put
+IsFault destination Done = ⊥
+IsFault destination Words = ⊥
+IsFault destination (Refused refusal) = ⊥
+IsFault destination Missing = ⊥
+
+-- this status, unless the outside failed or memory ran out
+abbrev pub IsUnlessFault : Destination → Status → Status → Type 0
+IsUnlessFault destination status wanted = (status ≡ wanted) ⊎ IsFault destination status
 
 -- how a command ended: all was done, or it stopped with another status
 abbrev pub ended : Result (Unit {0}) Status → Status
 ended (Ok done) = Done
 ended (Err status) = status
 
--- what the status says of the texts, where the store tells them
-abbrev pub Explains : Option Texts → List ℕ → List ℕ → Status → Option Texts → Type 0
-Explains told name save Done new = (texts : Texts) → told ≡ Some texts → Saved name save texts new
-Explains told name save Missing new = (texts : Texts) → told ≡ Some texts → text_at texts name ≡ None
-Explains told name save (Refused refusal) new = (texts : Texts) → told ≡ Some texts → (text : List ℕ) × (text_at texts name ≡ Some text) × IsRefused text refusal
-Explains told name save StoreFault new = Unit {0}
-Explains told name save NoMemory new = Unit {0}
--- the other statuses aren't answered
-Explains told name save Words new = ⊥
-Explains told name save SinkFault new = ⊥
-
-abbrev pub ExplainsCommand : Option Texts → Command → Status → Option Texts → Type 0
-ExplainsCommand told (Compile name save) status new = Explains told name save status new
+-- what the status says of the texts, where the store tells them, and of what was written
+abbrev pub Explains : Command → Option Texts → Option (List ℕ) → Status → Outside → Type 0
+Explains command told written Done after = (texts : Texts) → told ≡ Some texts → IsDone command texts written after
+Explains command told written (Refused refusal) after = (texts : Texts) → told ≡ Some texts → IsRefused command texts refusal
+Explains command told written Missing after = (texts : Texts) → told ≡ Some texts → texts_under texts (fetched command) ≡ None
+Explains command told written StoreFault after = Unit {0}
+Explains command told written NoMemory after = Unit {0}
+Explains command told written SinkFault after = destination_of command ≡ Put
+-- a command is never answered that its words are none
+Explains command told written Words after = ⊥

@@ -1,5 +1,5 @@
 -- What a process does: it reads, computes and sends, statement after statement and round after round (Kahn 1974). A read waits until a value is there.
-use Rattle.std.specs.Prelude.{ℕ, zero, suc, ◌+◌, ◌*◌, ℤ, pos, ◌+ℤ◌, ◌-ℤ◌, neg_ℤ, Bool, false, ◌||◌, List, [], ◌∷◌, ◌++◌, if◌then◌else◌}
+use Rattle.std.specs.Prelude.{ℕ, zero, suc, ◌+◌, ◌-◌, ◌*◌, ◌<◌, nat_lt, ℤ, pos, ◌+ℤ◌, ◌-ℤ◌, neg_ℤ, Bool, false, ◌||◌, List, [], ◌∷◌, ◌++◌, if◌then◌else◌}
 use Rattle.std.specs.Str.{bytes_eq}
 use Rattle.tis_base.specs.Saturation.{sat}
 use Rattle.tis_cli.specs.Net.{Name, Var, X, Statement, Get, Put, PutNumber, Move, Set, Add, Sub, Neg, Double, Process}
@@ -12,20 +12,22 @@ Streams = Name → List ℤ
 abbrev pub with_stream : Streams → Name → List ℤ → Streams
 with_stream streams name values = λ other. if bytes_eq other name then values else streams other
 
--- the two variables, what is left to read and what was sent under each name, and how many steps were begun
+-- the two variables, what is left to read and what was sent under each name, how many steps were begun, and the fuel that is left
 pub record ProcessState : Type 0 where
   pub x : ℤ
   pub y : ℤ
   pub unread : Streams
   pub sent : Streams
   pub steps : ℕ
+  pub fuel : ℕ
 
--- how a run ends: all was done, a read waits for a value that isn't there, or the fuel is used up
+-- how an execution ends: all was done, a read waits for a value that isn't there, or the fuel is used up
 pub data Outcome : Type 0 where
   Finished : Outcome
   WaitsOn : (name : Name) → Outcome
   OutOfFuel : Outcome
 
+-- the state that an execution comes to, and how it ended there
 pub record Execution : Type 0 where
   pub state : ProcessState
   pub outcome : Outcome
@@ -42,9 +44,13 @@ followed OutOfFuel state next = record { state = state; outcome = OutOfFuel }
 abbrev pub and_then : Execution → (ProcessState → Execution) → Execution
 and_then execution next = followed execution.outcome execution.state next
 
--- one more step
+-- one more step, which takes one unit of fuel
 abbrev pub stepped : ProcessState → ProcessState
-stepped state = record state { steps = state.steps + 1 }
+stepped state = record state { steps = state.steps + 1; fuel = state.fuel - 1 }
+
+-- a step is begun, and what it does follows; where it would leave no fuel, the execution is out of fuel instead
+abbrev pub begins : ProcessState → (ProcessState → Execution) → Execution
+begins state next = if nat_lt 1 state.fuel then next (stepped state) else record { state = state; outcome = OutOfFuel }
 
 -- a read of the first value that is left under a name
 abbrev pub read_first : List ℤ → Name → ProcessState → (ℤ → ProcessState → Execution) → Execution
@@ -65,7 +71,7 @@ value_in X state = state.x
 abbrev pub with_value : Var → ℤ → ProcessState → ProcessState
 with_value X value state = record state { x = value }
 
--- one statement, of which the step is counted; sums, differences and negatives are held within the values of the machine
+-- what one statement does once it is begun; sums, differences and negatives are held within the values of the machine
 abbrev pub does : Statement → ProcessState → Execution
 does (Get read var) state = read_from read state (λ value after. finished (with_value var value after))
 does (Put written var) state = finished (send written (value_in var state) state)
@@ -78,22 +84,38 @@ does (Neg var) state = finished (with_value var (sat (neg_ℤ (value_in var stat
 does (Double var) state = finished (with_value var (sat (value_in var state +ℤ value_in var state)) state)
 
 -- one statement, which is one step
-abbrev pub exec_statement : ℕ → Statement → ProcessState → Execution
-exec_statement fuel statement state = does statement (stepped state)
+abbrev pub exec_statement : Statement → ProcessState → Execution
+exec_statement statement state = begins state (does statement)
 
 -- the statements of a block, one after the other
-abbrev pub exec : ℕ → List Statement → ProcessState → Execution
-exec fuel [] state = finished state
-exec fuel (statement ∷ body) state = and_then (exec_statement fuel statement state) (exec fuel body)
+abbrev pub exec : List Statement → ProcessState → Execution
+exec [] state = finished state
+exec (statement ∷ body) state = and_then (exec_statement statement state) (exec body)
 
--- round after round, each of which is begun by one step; the fuel is how many rounds are begun at most
-abbrev pub rounds : ℕ → List Statement → ProcessState → Execution
-rounds zero body state = record { state = state; outcome = OutOfFuel }
-rounds (suc fuel) body state = and_then (exec fuel body (stepped state)) (rounds fuel body)
+-- a round, which is begun by one step
+abbrev pub round : List Statement → ProcessState → Execution
+round body state = begins state (exec body)
 
--- a process at its start, over the streams that it can read
-abbrev pub beginning : Streams → ProcessState
-beginning streams = record { x = pos 0; y = pos 0; unread = streams; sent = λ name. []; steps = 0 }
+-- at most so many rounds, one after the other
+abbrev pub rounds_within : ℕ → List Statement → ProcessState → Execution
+rounds_within zero body state = record { state = state; outcome = OutOfFuel }
+rounds_within (suc more) body state = and_then (round body state) (rounds_within more body)
+
+-- round after round; each takes fuel, so there are no more rounds than there is fuel
+abbrev pub rounds : List Statement → ProcessState → Execution
+rounds body state = rounds_within state.fuel body state
+
+-- a process at its start, over the streams that it can read, with this much fuel
+abbrev pub beginning : Streams → ℕ → ProcessState
+beginning streams fuel = record { x = pos 0; y = pos 0; unread = streams; sent = λ name. []; steps = 0; fuel = fuel }
+
+-- a process run round after round from its start
+abbrev pub process_run : List Statement → Streams → ℕ → Execution
+process_run body streams fuel = rounds body (beginning streams fuel)
+
+-- an execution from the start begins fewer steps than it has fuel
+abbrev pub FuelBoundsSteps : Type 0
+FuelBoundsSteps = (body : List Statement) (streams : Streams) (fuel : ℕ) → 0 < fuel → (process_run body streams fuel).state.steps < fuel
 
 -- ---- what is known from the statements alone
 
@@ -122,6 +144,9 @@ abbrev pub block_cost : List Statement → ℕ
 block_cost [] = 0
 block_cost (statement ∷ body) = statement_cost statement + block_cost body
 
--- the most steps of a process for each value that it can read
+-- the most steps of a process with this body for each value that it can read
+abbrev pub body_cost : List Statement → ℕ
+body_cost body = 2 + 2 * block_cost body
+
 abbrev pub cost : Process → ℕ
-cost process = 2 + 2 * block_cost process.body
+cost process = body_cost process.body

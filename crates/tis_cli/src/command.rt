@@ -1,8 +1,7 @@
 //! The words of the command line.
-ghost use Rattle.std.specs.Prelude.{◌≡◌, string_bytes};
-ghost use Rattle.tis_cli.specs.Commands.{command_of};
+ghost use Rattle.std.specs.Prelude.{◌≡◌, option_map};
+ghost use Rattle.tis_cli.specs.Commands.{command_of, command_view};
 ghost use Rattle.tis_cli.specs.Outcomes.{words_of};
-ghost use Rattle.tis_cli.specs.CommandView.{IsSpoken};
 
 /// A command with its words.
 #[derive(Clone, Copy, Debug)]
@@ -13,7 +12,7 @@ pub enum Command<'a> {
 
 /// The command that these words are, or None where they are none.
 pub fn read_words<'a>(words: &'a [String]) -> Option<Command<'a>>
-    ensures { IsSpoken (command_of (words_of words.now)) result }
+    ensures { command_of (words_of words.now) ≡ option_map command_view result }
 {
     match words {
         [word, net, save] if word.as_str() == "compile" => Some(Command::Compile {

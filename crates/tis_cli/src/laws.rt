@@ -1,6 +1,7 @@
-//! Laws of networks, of the programs that they are compiled to, and of the texts that are written.
+//! Laws of networks and of the programs that they are compiled to.
 ghost use Rattle.tis_cli.specs.Behaves.{ProcessesBehave, ProcessesWait};
-ghost use Rattle.tis_cli.specs.Saves.{SavesReadBack};
+ghost use Rattle.tis_cli.specs.Kahn.{StepsWithinLimits};
+ghost use Rattle.tis_cli.specs.Process.{FuelBoundsSteps};
 
 /// The code of a process of a column behaves as the process.
 pub fn processes_behave()
@@ -12,7 +13,9 @@ pub fn processes_wait()
     ensures { ProcessesWait }
 {}
 
-/// The canonical save of a programs whose numbers are values is read as that programs.
-pub fn saves_read_back()
-    ensures { SavesReadBack }
+/// A process begins fewer steps than it has fuel, and the processes of a network take no more steps
+/// than they may.
+pub fn steps_are_bounded()
+    ensures fuel { FuelBoundsSteps }
+    ensures limits { StepsWithinLimits }
 {}

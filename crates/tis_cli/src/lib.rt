@@ -7,9 +7,8 @@ mod net_emit;
 mod net_syntax;
 mod run;
 mod status;
-mod tis_save;
 
-pub use laws::{processes_behave, processes_wait, saves_read_back};
+pub use laws::{processes_behave, processes_wait, steps_are_bounded};
 pub use run::tool;
 pub use status::{Refusal, Status, describe};
 

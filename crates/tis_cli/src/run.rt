@@ -1,27 +1,27 @@
 //! The one call that does all that the program does.
-ghost use Rattle.std.specs.Prelude.{◌≡◌, ◌≢◌, ◌↔◌, ◌⊎◌, ℕ, List, Some, None, OnErr, IsErrOf};
+ghost use Rattle.std.specs.Prelude.{◌≡◌, ◌≢◌, ◌↔◌, ◌⊎◌, ℕ, List, Option, Some, None, OnErr, IsErrOf};
 ghost use Rattle.tis_cli.specs.declared.status.Refusal.{Refusal};
-ghost use Rattle.tis_base.specs.Outside.{Texts, text_at, Rose};
-ghost use Rattle.tis_cli.specs.Commands.{command_of};
-ghost use Rattle.tis_cli.specs.Net.{Net};
-ghost use Rattle.tis_cli.specs.CommandView.{command_view};
-ghost use Rattle.tis_cli.specs.Column.{NetOf};
-ghost use Rattle.tis_cli.specs.Outcomes.{words_of, ended, Explains, ExplainsCommand, Compiles, IsRefused, Saved, IsUnlessFault};
+ghost use Rattle.tis_base.specs.Outside.{Texts, Rose};
+ghost use Rattle.tis_cli.specs.Answers.{Answer, answer_status};
+ghost use Rattle.tis_cli.specs.Commands.{Command as SomeCommand, Compile, command_of, command_view, fetched, destination_of, ComesTo};
+ghost use Rattle.tis_cli.specs.Outcomes.{words_of, IsCalled, PutsReport, texts_under, IsDone, IsRefused, IsUnlessFault, ended, Explains};
 
 use crate::command::{Command, read_words};
 use crate::net_emit::emit;
 use crate::net_syntax::read_net;
 use crate::status::Status;
-use crate::tis_save::write_save;
 use std::alloc::Global;
 use tis_base::{Sink, Store};
+use tis_save::write_save;
 
 // Compiles the network under one name, and keeps its save under another.
 fn compile<S: Store>(alloc: Global, net: &str, save: &str, store: &mut S) -> Result<(), Status>
-    ensures explains { Explains (S.texts store.old) net.now save.now (ended result) (S.texts store.new) }
+    ensures explains { (written : Option (List ℕ)) → Explains (Compile net.now save.now) (S.texts store.old) written (ended result) (record { texts = S.texts store.new; written = written }) }
     ensures texts_stay { OnErr result (S.texts store.new ≡ S.texts store.old) }
     ensures missing_counted { IsErrOf result Status.Missing → Rose (S.misses store.old) (S.misses store.new) }
     ensures fault_counted { IsErrOf result Status.StoreFault → Rose (S.faults store.old) (S.faults store.new) }
+    ensures misses_stay { result ≢ Err Status.Missing → S.misses store.new ≡ S.misses store.old }
+    ensures faults_stay { result ≢ Err Status.StoreFault → S.faults store.new ≡ S.faults store.old }
 {
     let text = store.fetch(alloc, net)?;
     let tree = read_net(alloc, &text)?;
@@ -31,17 +31,27 @@ fn compile<S: Store>(alloc: Global, net: &str, save: &str, store: &mut S) -> Res
     Ok(())
 }
 
+// The status of a command that was done, or stopped with another one.
+fn status_of(outcome: Result<(), Status>) -> Status
+    ensures { result ≡ ended outcome }
+{
+    match outcome {
+        Ok(()) => Status::Done,
+        Err(status) => status,
+    }
+}
+
 // Does what a command says.
 fn perform<S: Store>(alloc: Global, command: Command, store: &mut S) -> Status
-    ensures explains { ExplainsCommand (S.texts store.old) (command_view command.entry) result (S.texts store.new) }
+    ensures explains { (written : Option (List ℕ)) → Explains (command_view command.entry) (S.texts store.old) written result (record { texts = S.texts store.new; written = written }) }
     ensures texts_stay { result ≢ Status.Done → S.texts store.new ≡ S.texts store.old }
     ensures missing_counted { result ≡ Status.Missing → Rose (S.misses store.old) (S.misses store.new) }
     ensures fault_counted { result ≡ Status.StoreFault → Rose (S.faults store.old) (S.faults store.new) }
+    ensures misses_stay { result ≢ Status.Missing → S.misses store.new ≡ S.misses store.old }
+    ensures faults_stay { result ≢ Status.StoreFault → S.faults store.new ≡ S.faults store.old }
 {
-    let Command::Compile { net, save } = command;
-    match compile(alloc, net, save, store) {
-        Ok(()) => Status::Done,
-        Err(status) => status,
+    match command {
+        Command::Compile { net, save } => status_of(compile(alloc, net, save, store)),
     }
 }
 
@@ -49,37 +59,44 @@ fn perform<S: Store>(alloc: Global, command: Command, store: &mut S) -> Status
 ///
 /// `compile NET SAVE` fetches the text under the name NET, and keeps the canonical save of the
 /// network that it is under the name SAVE. Other words are no command. The words are looked at
-/// first, then the name, then the text.
+/// first, then the names, then the texts in the order in which a command reads them, then its work.
 pub fn tool<S: Store, K: Sink>(
     alloc: Global,
     words: &[String],
     store: &mut S,
     out: &mut K,
 ) -> Status
-    // The words are no command exactly where the answer says so, and then nothing was fetched.
+    // The words are no command exactly where the answer says so, and then nothing was fetched or put.
     ensures words { (result ≡ Status.Words) ↔ (command_of (words_of words.now) ≡ None) }
-    ensures words_touch_nothing { result ≡ Status.Words → store.new ≡ store.old }
+    ensures words_touch_nothing { result ≡ Status.Words → (store.new ≡ store.old) × (out.new ≡ out.old) }
 
-    // The name of the network isn't there.
+    // A name that the command fetches isn't there.
     ensures missing_counted { result ≡ Status.Missing → Rose (S.misses store.old) (S.misses store.new) }
-    ensures missing_only { (net save : List ℕ) (texts : Texts) → Compiles (words_of words.now) (S.texts store.old) net save texts → result ≡ Status.Missing → text_at texts net ≡ None }
-    ensures missing_where { (net save : List ℕ) (texts : Texts) → Compiles (words_of words.now) (S.texts store.old) net save texts → text_at texts net ≡ None → IsUnlessFault result Status.Missing }
+    ensures missing_only { (command : SomeCommand) (texts : Texts) → IsCalled (words_of words.now) (S.texts store.old) command texts → result ≡ Status.Missing → texts_under texts (fetched command) ≡ None }
+    ensures missing_where { (command : SomeCommand) (texts : Texts) → IsCalled (words_of words.now) (S.texts store.old) command texts → texts_under texts (fetched command) ≡ None → IsUnlessFault (destination_of command) result Status.Missing }
 
-    // The store or the sink failed.
+    // The store or the sink failed. Only a command that puts its report meets a fault of the sink.
     ensures store_fault_counted { result ≡ Status.StoreFault → Rose (S.faults store.old) (S.faults store.new) }
-    ensures never_sink_fault { result ≢ Status.SinkFault }
+    ensures sink_fault_counted { result ≡ Status.SinkFault → Rose (K.faults out.old) (K.faults out.new) }
+    ensures sink_fault_only { result ≡ Status.SinkFault → PutsReport (words_of words.now) }
 
-    // The text is refused.
-    ensures refused_only { (net save : List ℕ) (texts : Texts) (refusal : Refusal) → Compiles (words_of words.now) (S.texts store.old) net save texts → result ≡ Status.Refused refusal → (text : List ℕ) × (text_at texts net ≡ Some text) × IsRefused text refusal }
-    ensures refused_where { (net save : List ℕ) (texts : Texts) (text : List ℕ) (refusal : Refusal) → Compiles (words_of words.now) (S.texts store.old) net save texts → text_at texts net ≡ Some text → IsRefused text refusal → IsUnlessFault result (Status.Refused refusal) }
+    // A text, or the work over it, is refused.
+    ensures refused_only { (command : SomeCommand) (texts : Texts) (refusal : Refusal) → IsCalled (words_of words.now) (S.texts store.old) command texts → result ≡ Status.Refused refusal → IsRefused command texts refusal }
 
-    // The save is kept.
-    ensures done_only { (net save : List ℕ) (texts : Texts) → Compiles (words_of words.now) (S.texts store.old) net save texts → result ≡ Status.Done → Saved net save texts (S.texts store.new) }
-    ensures done_where { (net save : List ℕ) (texts : Texts) (text : List ℕ) (read : Net) → Compiles (words_of words.now) (S.texts store.old) net save texts → text_at texts net ≡ Some text → NetOf text read → IsUnlessFault result Status.Done }
+    // All is done.
+    ensures done_only { (command : SomeCommand) (texts : Texts) → IsCalled (words_of words.now) (S.texts store.old) command texts → result ≡ Status.Done → IsDone command texts (K.written out.old) (record { texts = S.texts store.new; written = K.written out.new }) }
+
+    // What the texts come to is answered, unless the outside failed or memory ran out.
+    ensures complete { (command : SomeCommand) (texts : Texts) (found : List (List ℕ)) (answer : Answer) → IsCalled (words_of words.now) (S.texts store.old) command texts → texts_under texts (fetched command) ≡ Some found → ComesTo command found answer → IsUnlessFault (destination_of command) result (answer_status answer) }
+
+    // No fault and no miss is passed over.
+    ensures misses_stay { result ≢ Status.Missing → S.misses store.new ≡ S.misses store.old }
+    ensures faults_stay { result ≢ Status.StoreFault → S.faults store.new ≡ S.faults store.old }
+    ensures sink_faults_stay { result ≢ Status.SinkFault → K.faults out.new ≡ K.faults out.old }
 
     // Nothing else changes.
     ensures texts_stay { result ≢ Status.Done → S.texts store.new ≡ S.texts store.old }
-    ensures sink_stays { out.new ≡ out.old }
+    ensures sink_stays { (PutsReport (words_of words.now) → ⊥) → out.new ≡ out.old }
 {
     match read_words(words) {
         None => Status::Words,

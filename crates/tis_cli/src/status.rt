@@ -1,7 +1,7 @@
 //! How the program ends.
 ghost use Rattle.std.specs.Prelude.{◌≡◌};
 ghost use Rattle.tis_base.specs.Answers.{Gives};
-ghost use Rattle.tis_cli.specs.Commands.{number_of, refusal_words, status_line};
+ghost use Rattle.tis_cli.specs.Statuses.{number_of, refusal_words, status_line};
 
 use crate::net_syntax::NetError;
 use std::alloc::Global;
@@ -63,7 +63,7 @@ impl From<NoMemory> for Status {
 
 impl From<StoreError> for Status {
     ghost use Rattle.std.specs.Prelude.{◌≡◌};
-    ghost use Rattle.tis_cli.specs.Commands.{store_status};
+    ghost use Rattle.tis_cli.specs.Statuses.{store_status};
 
     ghost from_gives = { λ error status. status ≡ store_status error };
 
@@ -78,7 +78,7 @@ impl From<StoreError> for Status {
 
 impl From<NetError> for Status {
     ghost use Rattle.std.specs.Prelude.{◌≡◌};
-    ghost use Rattle.tis_cli.specs.Commands.{net_status};
+    ghost use Rattle.tis_cli.specs.Statuses.{net_status};
 
     ghost from_gives = { λ error status. status ≡ net_status error };
 

@@ -12,8 +12,9 @@ use Rattle.tis_asm.specs.PortRuns as port
 use Rattle.tis_grid.specs.declared.event.Event.{Event}
 use Rattle.tis_grid.specs.declared.event.Event.TheVariants.{Local, Meet, In, Out, Push, Pop}
 use Rattle.tis_grid.specs.State.{Grid, State, stack_at, next_value}
-use Rattle.tis_grid.specs.Events.{bottom_of, IsEnabled, offered, reached, newest, after_event}
-use Rattle.tis_grid.specs.Orders.{IsLegal}
+use Rattle.tis_grid.specs.Events.{bottom_of, offered, reached, newest, after_event}
+use Rattle.tis_grid.proofs.Total.{Runs}
+use Rattle.tis_grid.proofs.Enabled.{Enables}
 use Rattle.tis_grid.specs.TileSteps.{step_at, steps_in, steps_of}
 use Rattle.tis_grid.proofs.Ports.{own_step}
 
@@ -48,7 +49,7 @@ one_step tile step = let one : length (step_at tile tile step) ≡ 1 = ap length
 
 module _ (grid : Grid) where
   -- each event is a step of the tile that it names
-  actor : (state : State) (event : Event) → IsEnabled grid state event → Actor grid state event
+  actor : (state : State) (event : Event) → Enables grid state event → Actor grid state event
   actor state (Local at) is = record { tile = at.number; within = compute_below grid at.number is.0; some = one_step at.number port.Local }
   actor state (Meet at dir) is =
       let value = offered state at.number dir in
@@ -65,7 +66,7 @@ module _ (grid : Grid) where
   actor state (Pop at dir) is = record { tile = at.number; within = compute_below grid at.number is.2.compute; some = one_step at.number (Took dir (newest (stack_at state (reached grid at.number dir)))) }
 
   -- the tiles together make as many steps as there are events, or more
-  pub order_counts : (state : State) (events : List Event) → IsLegal grid state events → length events ≤ sum_by (λ tile. length (steps_of grid state events tile)) (range_with_len 0 (length grid.puzzle.tiles.kinds))
+  pub order_counts : (state : State) (events : List Event) → Runs grid state events → length events ≤ sum_by (λ tile. length (steps_of grid state events tile)) (range_with_len 0 (length grid.puzzle.tiles.kinds))
   order_counts state [] legal = omega arith
   order_counts state (event ∷ events) legal =
       let then = after_event grid state event in

@@ -1,5 +1,5 @@
 -- What inputs lose the tiles below them take, and what outputs get the tiles above them give.
-use Rattle.std.proofs.Common.{◌≡◌, ℕ, ◌+◌, ◌-◌, ◌<◌, ◌≤◌, ℤ, pos, List, [], ◌∷◌, ◌++◌, length, drop, get_or, set, Some, inl, inr, refl, sym, ap, ap₂, ◌∙◌, subst, arith, append_assoc}
+use Rattle.std.proofs.Common.{◌≡◌, ℕ, ◌+◌, ◌-◌, ◌<◌, ◌≤◌, ℤ, pos, List, [], ◌∷◌, ◌++◌, length, drop, get_or, set, Option, Some, None, unwrap_or, inl, inr, refl, sym, ap, ap₂, ◌∙◌, subst, arith, append_assoc}
 use Rattle.std.proofs.lemmas.Bool.{cases_eq}
 use Rattle.std.proofs.lemmas.List.{append-nil, drop_more, get_or-set_same, get_or-set_other}
 use Rattle.tis_base.specs.Tiles.{opposite}
@@ -10,12 +10,13 @@ use Rattle.tis_grid.specs.declared.event.Event.{Event}
 use Rattle.tis_grid.specs.declared.event.Event.TheVariants.{Local, Meet, In, Out, Push, Pop}
 use Rattle.tis_grid.specs.Puzzle.{values_at}
 use Rattle.tis_grid.specs.State.{Grid, IsGrid, State, stack_at, left_at, outs, next_value}
-use Rattle.tis_grid.specs.Events.{next_tile, bottom_of, IsEnabled, offered, reached, newest, after_event}
-use Rattle.tis_grid.specs.Orders.{Fits, after, IsLegal}
+use Rattle.tis_grid.specs.Events.{next_tile, bottom_of, offered, reached, newest, after_event}
+use Rattle.tis_grid.specs.Orders.{Fits}
+use Rattle.tis_grid.proofs.Total.{ran, Runs}
 use Rattle.tis_grid.specs.TileSteps.{step_at, steps_in, steps_of, values_left}
 use Rattle.tis_grid.proofs.Places.{none_above, not_top, none_below, some_rows}
 use Rattle.tis_grid.proofs.Ports.{opposite_twice, given_append, taken_append, local_gives_none, local_takes_none, took_gives_none, gave_takes_none, gives_none, takes_none, gives_here, takes_here}
-use Rattle.tis_grid.proofs.Enabled.{meeting}
+use Rattle.tis_grid.proofs.Enabled.{Enables, meeting}
 use Rattle.tis_grid.proofs.Fitting.{event_fitting}
 
 -- the values that are left are the next one and then those that are left after it
@@ -37,7 +38,7 @@ module _ (grid : Grid) (is_grid : IsGrid grid) (position : ℕ) (within : positi
       let values = values_at grid.puzzle.inputs position in
       let left = left_at state position in
       let next = next_value grid state position in
-      let fewer : get_or (set state.left position (left - 1)) position 0 ≡ left - 1 = get_or-set_same state.left position (left - 1) 0 (omega (arith, fits.left)) in
+      let fewer : unwrap_or (get_or (set state.left position (Some (left - 1))) position None) 0 ≡ left - 1 = ap (λ (o : Option ℕ). unwrap_or o 0) (get_or-set_same state.left position (Some (left - 1)) None (omega (arith, fits.left))) in
       next_then_rest values left some (fits.within position)
       ∙ ap₂ (λ (prefix : List ℤ) (n : ℕ). prefix ++ drop (length values - n) values) (sym (takes_here Up position position Up next refl refl)) (sym fewer)
 
@@ -45,11 +46,11 @@ module _ (grid : Grid) (is_grid : IsGrid grid) (position : ℕ) (within : positi
   other_input : (state : State) (at : ℕ) → (position ≡ at → ⊥) → values_left grid state position ≡ taken_from Up (steps_in grid state (In at) position) ++ values_left grid (after_event grid state (In at)) position
   other_input state at apart =
       let values = values_at grid.puzzle.inputs position in
-      let same = get_or-set_other state.left at position (left_at state at - 1) 0 apart in
+      let same = ap (λ (o : Option ℕ). unwrap_or o 0) (get_or-set_other state.left at position (Some (left_at state at - 1)) None apart) in
       ap₂ (λ (prefix : List ℤ) (n : ℕ). prefix ++ drop (length values - n) values) (sym (takes_none Up position at Up (next_value grid state at) (λ here up. apart (sym here)))) (sym same)
 
   -- what an event takes from an input the tile below it takes
-  event_takes : (state : State) (event : Event) → Fits grid state → IsEnabled grid state event → values_left grid state position ≡ taken_from Up (steps_in grid state event position) ++ values_left grid (after_event grid state event) position
+  event_takes : (state : State) (event : Event) → Fits grid state → Enables grid state event → values_left grid state position ≡ taken_from Up (steps_in grid state event position) ++ values_left grid (after_event grid state event) position
   event_takes state (Local at) fits is = untouched state _ (local_takes_none Up position at.number)
   event_takes state (Meet at port) fits is =
       let meets = meeting grid state at port is in
@@ -70,7 +71,7 @@ module _ (grid : Grid) (is_grid : IsGrid grid) (position : ℕ) (within : positi
       untouched state _ (takes_none Up position at.number port (newest (stack_at state (reached grid at.number port))) (λ same up. none_above grid.puzzle.tiles.shape position is.0 within (ap₂ (λ (t : ℕ) (d : Dir). next_tile grid t d) (sym same) (sym up) ∙ is.1.next)))
 
   -- what an order takes from an input the tile below it takes
-  pub order_takes : (state : State) (events : List Event) → Fits grid state → IsLegal grid state events → values_left grid state position ≡ taken_from Up (steps_of grid state events position) ++ values_left grid (after grid state events) position
+  pub order_takes : (state : State) (events : List Event) → Fits grid state → Runs grid state events → values_left grid state position ≡ taken_from Up (steps_of grid state events position) ++ values_left grid (ran grid state events) position
   order_takes state [] fits legal = refl
   order_takes state (event ∷ events) fits legal =
       let then = after_event grid state event in
@@ -78,8 +79,8 @@ module _ (grid : Grid) (is_grid : IsGrid grid) (position : ℕ) (within : positi
       let more = taken_from Up (steps_of grid then events position) in
       event_takes state event fits legal.0
       ∙ ap (λ (rest : List ℤ). first ++ rest) (order_takes then events (event_fitting grid state event is_grid fits legal.0) legal.1)
-      ∙ sym (append_assoc first more (values_left grid (after grid then events) position))
-      ∙ ap (λ (prefix : List ℤ). prefix ++ values_left grid (after grid then events) position) (sym (taken_append Up (steps_in grid state event position) (steps_of grid then events position)))
+      ∙ sym (append_assoc first more (values_left grid (ran grid then events) position))
+      ∙ ap (λ (prefix : List ℤ). prefix ++ values_left grid (ran grid then events) position) (sym (taken_append Up (steps_in grid state event position) (steps_of grid then events position)))
 
   -- ---- outputs
 
@@ -92,7 +93,7 @@ module _ (grid : Grid) (is_grid : IsGrid grid) (position : ℕ) (within : positi
   own_output state fits =
       let bottom = bottom_of grid position in
       let value = offered state bottom Down in
-      get_or-set_same state.outs position (outs state position ++ value ∷ []) [] (omega (arith, fits.outs))
+      ap (λ (o : Option (List ℤ)). unwrap_or o []) (get_or-set_same state.outs position (Some (outs state position ++ value ∷ [])) None (omega (arith, fits.outs)))
       ∙ ap (λ (back : List ℤ). outs state position ++ back) (sym (gives_here Down bottom bottom Down value refl refl))
 
   -- what another output gets the tile above this one does not give
@@ -100,7 +101,7 @@ module _ (grid : Grid) (is_grid : IsGrid grid) (position : ℕ) (within : positi
   other_output state at apart =
       let bottom = bottom_of grid at in
       let value = offered state bottom Down in
-      get_or-set_other state.outs at position (outs state at ++ value ∷ []) [] apart
+      ap (λ (o : Option (List ℤ)). unwrap_or o []) (get_or-set_other state.outs at position (Some (outs state at ++ value ∷ [])) None apart)
       ∙ unchanged state _ (gives_none Down (bottom_of grid position) bottom Down value (λ here down. apart (omega arith)))
 
   -- nothing is next to the tile above an output on the way down
@@ -108,7 +109,7 @@ module _ (grid : Grid) (is_grid : IsGrid grid) (position : ℕ) (within : positi
   below_bottom next tile port same down is = none_below grid.puzzle.tiles.shape position next (some_rows grid.puzzle.tiles is_grid.puzzle.board) (ap₂ (λ (t : ℕ) (d : Dir). next_tile grid t d) (sym same) (sym down) ∙ is)
 
   -- what an event brings to an output the tile above it gives
-  event_gives : (state : State) (event : Event) → Fits grid state → IsEnabled grid state event → outs (after_event grid state event) position ≡ outs state position ++ given_to Down (steps_in grid state event (bottom_of grid position))
+  event_gives : (state : State) (event : Event) → Fits grid state → Enables grid state event → outs (after_event grid state event) position ≡ outs state position ++ given_to Down (steps_in grid state event (bottom_of grid position))
   event_gives state (Local at) fits is = unchanged state _ (local_gives_none Down (bottom_of grid position) at.number)
   event_gives state (Meet at port) fits is =
       let bottom = bottom_of grid position in
@@ -126,7 +127,7 @@ module _ (grid : Grid) (is_grid : IsGrid grid) (position : ℕ) (within : positi
   event_gives state (Pop at port) fits is = unchanged state _ (took_gives_none Down (bottom_of grid position) at.number port (newest (stack_at state (reached grid at.number port))))
 
   -- what an order brings to an output the tile above it gives
-  pub order_gives : (state : State) (events : List Event) → Fits grid state → IsLegal grid state events → outs (after grid state events) position ≡ outs state position ++ given_to Down (steps_of grid state events (bottom_of grid position))
+  pub order_gives : (state : State) (events : List Event) → Fits grid state → Runs grid state events → outs (ran grid state events) position ≡ outs state position ++ given_to Down (steps_of grid state events (bottom_of grid position))
   order_gives state [] fits legal = sym (append-nil (outs state position))
   order_gives state (event ∷ events) fits legal =
       let then = after_event grid state event in

@@ -1,6 +1,6 @@
 -- Worked examples of events and orders: three tiles of a column that pass values on, and a tile beside a stack.
-use Rattle.std.proofs.Common.{◌≡◌, ◌<◌, ℕ, length, pos, false, Some, None, List, [], ◌∷◌, ◌++◌, replicate, refl, sym, subst, lit<}
-use native.Mathlib.Omega.{arith}
+use Rattle.std.proofs.Common.{◌≡◌, ℕ, pos, true, false, Some, None, unwrap_or, List, [], ◌∷◌, ◌++◌, length, replicate, refl}
+use Rattle.std.specs.Prelude.{is_some}
 use Rattle.tis_base.specs.declared.tiles.Dir.TheVariants.{Up, Down, Right}
 use Rattle.tis_base.specs.declared.tiles.TileKind.TheVariants.{Compute, Memory}
 use Rattle.tis_asm.specs.declared.instr.Source.TheVariants as from
@@ -12,9 +12,11 @@ use Rattle.tis_grid.specs.declared.event.Event.{Event}
 use Rattle.tis_grid.specs.declared.event.Event.TheVariants.{Local, Meet, In, Out, Push, Pop}
 use Rattle.tis_grid.specs.declared.puzzle.OutKind.TheVariants.{Stream}
 use Rattle.tis_grid.specs.Puzzle.{Puzzle}
-use Rattle.tis_grid.specs.State.{Grid, State, outs, left_at, node_at, stack_at, start}
-use Rattle.tis_grid.specs.Events.{IsEnabled, STACK_ROOM}
-use Rattle.tis_grid.specs.Orders.{after, IsLegal}
+use Rattle.tis_grid.specs.State.{Grid, State, outs, input_left, output_taken, node_at, stack_at, start}
+use Rattle.tis_grid.specs.Events.{is_enabled}
+use Rattle.tis_grid.specs.Orders.{after}
+use Rattle.tis_grid.specs.Choices.{enabled_events}
+use Rattle.tis_grid.specs.Drawn.{drawn}
 
 -- a program that passes values down
 abbrev passing : List MarkedInstr
@@ -47,40 +49,78 @@ one_by_one = In 1 ∷ first_meets ∷ second_meets ∷ Out 1 ∷ In 1 ∷ first_
 abbrev closely : List Event
 closely = In 1 ∷ first_meets ∷ In 1 ∷ second_meets ∷ first_meets ∷ Out 1 ∷ second_meets ∷ Out 1 ∷ []
 
--- after both orders the output has both values, and nothing is left
-one_by_one_gives : outs (after column (start column) one_by_one) 1 ≡ pos 5 ∷ pos 7 ∷ []
+-- the state behind events from the start, where they are legal
+abbrev end_of : Grid → List Event → State
+end_of grid events = unwrap_or (after grid (start grid) events) (start grid)
+
+-- both orders are legal; behind them the output has both values, and nothing is left
+one_by_one_leads : is_some (after column (start column) one_by_one) ≡ true
+one_by_one_leads = refl
+
+one_by_one_gives : outs (end_of column one_by_one) 1 ≡ pos 5 ∷ pos 7 ∷ []
 one_by_one_gives = refl
 
-closely_gives : outs (after column (start column) closely) 1 ≡ pos 5 ∷ pos 7 ∷ []
+closely_leads : is_some (after column (start column) closely) ≡ true
+closely_leads = refl
+
+closely_gives : outs (end_of column closely) 1 ≡ pos 5 ∷ pos 7 ∷ []
 closely_gives = refl
 
-nothing_left : left_at (after column (start column) closely) 1 ≡ 0
+nothing_left : input_left (end_of column closely) 1 ≡ Some 0
 nothing_left = refl
 
+-- no port stands elsewhere
+no_input : input_left (start column) 2 ≡ None
+no_input = refl
+
+no_output : output_taken (start column) 2 ≡ None
+no_output = refl
+
 -- in the middle of an order there is the first value alone
-in_the_middle : outs (after column (start column) (In 1 ∷ first_meets ∷ second_meets ∷ Out 1 ∷ In 1 ∷ [])) 1 ≡ pos 5 ∷ []
+in_the_middle : outs (end_of column (In 1 ∷ first_meets ∷ second_meets ∷ Out 1 ∷ In 1 ∷ [])) 1 ≡ pos 5 ∷ []
 in_the_middle = refl
 
--- a value may come in, be met and be met again, and go out
-is_legal : IsLegal column (start column) (In 1 ∷ first_meets ∷ second_meets ∷ Out 1 ∷ [])
-is_legal = (
-  (lit< tt, lit< tt, record { compute = refl; wants = refl }),
-  (
-    (5, refl, record { compute = refl; value = pos 5; offers = refl }, record { compute = refl; wants = refl }),
-    (
-      (9, refl, record { compute = refl; value = pos 5; offers = refl }, record { compute = refl; wants = refl }),
-      ((lit< tt, (0, record { position = 1; kind = Stream; expected = pos 5 ∷ pos 7 ∷ [] }, lit< tt, refl, refl), record { compute = refl; value = pos 5; offers = refl }), tt),
-    ),
-  ),
-)
-
--- it can't go out before the second tile was met
-is_early : IsEnabled column (after column (start column) (In 1 ∷ first_meets ∷ [])) (Out 1) → ⊥
-is_early enabled = cc enabled.2.offers
+-- a value can't go out before the second tile was met
+is_early : is_enabled column (end_of column (In 1 ∷ first_meets ∷ [])) (Out 1) ≡ false
+is_early = refl
 
 -- nor be met by a tile at the side, which waits for nothing
-is_sideways : IsEnabled column (after column (start column) (In 1 ∷ [])) (Meet (record { number = 1 }) Right) → ⊥
-is_sideways enabled = cc enabled.2.offers
+is_sideways : is_enabled column (end_of column (In 1 ∷ [])) (Meet (record { number = 1 }) Right) ≡ false
+is_sideways = refl
+
+-- so such an order leads nowhere
+leads_nowhere : after column (start column) (In 1 ∷ first_meets ∷ Out 1 ∷ []) ≡ None
+leads_nowhere = refl
+
+-- an event at a tile or a position that isn't there is never enabled
+no_tile : is_enabled column (start column) (Local (record { number = 12 })) ≡ false
+no_tile = refl
+
+no_position : is_enabled column (start column) (In 9) ≡ false
+no_position = refl
+
+-- at first the value can come in, and nothing else can happen
+first_choice : enabled_events column (start column) ≡ In 1 ∷ []
+first_choice = refl
+
+-- once it was met, the second tile can give it on and the next value can come in: tiles come before inputs
+second_choice : enabled_events column (end_of column (In 1 ∷ first_meets ∷ [])) ≡ second_meets ∷ In 1 ∷ []
+second_choice = refl
+
+-- when both values are out, nothing is left to happen
+at_rest : enabled_events column (end_of column closely) ≡ []
+at_rest = refl
+
+-- whatever is drawn, eight events bring both values out
+drawn_to_rest : length (drawn column (start column) 7 100) ≡ 8
+drawn_to_rest = refl
+
+drawn_gives : outs (end_of column (drawn column (start column) 7 100)) 1 ≡ pos 5 ∷ pos 7 ∷ []
+drawn_gives = refl
+
+-- with seven events at most the second value doesn't come out
+drawn_to_limit : outs (end_of column (drawn column (start column) 7 7)) 1 ≡ pos 5 ∷ []
+drawn_to_limit = refl
 
 -- ---- a stack
 
@@ -116,18 +156,18 @@ abbrev both_pushed : List Event
 both_pushed = steps ∷ pushes ∷ steps ∷ pushes ∷ []
 
 -- the newest value stands last
-both_stand : stack_at (after beside_a_stack (start beside_a_stack) both_pushed) 1 ≡ pos 1 ∷ pos 2 ∷ []
+both_stand : stack_at (end_of beside_a_stack both_pushed) 1 ≡ pos 1 ∷ pos 2 ∷ []
 both_stand = refl
 
 -- it is taken first, and is gone then
-older_stays : stack_at (after beside_a_stack (start beside_a_stack) (both_pushed ++ pops ∷ [])) 1 ≡ pos 1 ∷ []
+older_stays : stack_at (end_of beside_a_stack (both_pushed ++ pops ∷ [])) 1 ≡ pos 1 ∷ []
 older_stays = refl
 
-newest_is_taken : (node_at (after beside_a_stack (start beside_a_stack) (both_pushed ++ pops ∷ [])) 0).acc ≡ pos 2
+newest_is_taken : (node_at (end_of beside_a_stack (both_pushed ++ pops ∷ [])) 0).acc ≡ pos 2
 newest_is_taken = refl
 
-pop_can_happen : IsEnabled beside_a_stack (after beside_a_stack (start beside_a_stack) both_pushed) pops
-pop_can_happen = (1, record { next = refl; memory = refl }, record { compute = refl; wants = refl }, lit< tt)
+pop_can_happen : enabled_events beside_a_stack (end_of beside_a_stack both_pushed) ≡ pops ∷ []
+pop_can_happen = refl
 
 -- tile 0 gives 1 to its right
 abbrev giving : Node
@@ -143,32 +183,20 @@ beside node count =
     record {
       nodes = node ∷ replicate 11 fresh;
       stacks = [] ∷ replicate count (pos 7) ∷ replicate 10 [];
-      left = replicate 4 0;
-      outs = replicate 4 [];
+      left = replicate 4 None;
+      outs = replicate 4 None;
     }
 
 -- fifteen values fit, and no sixteenth
-fifteenth_fits : IsEnabled beside_a_stack (beside giving 14) pushes
-fifteenth_fits = (1, record { next = refl; memory = refl }, record { compute = refl; value = pos 1; offers = refl }, lit< tt)
+fifteenth_fits : is_enabled beside_a_stack (beside giving 14) pushes ≡ true
+fifteenth_fits = refl
 
-has_no_room : (stack : ℕ) → Some 1 ≡ Some stack → length (stack_at (beside giving 15) stack) < STACK_ROOM → ⊥
-has_no_room stack same room =
-    let here : 1 ≡ stack = cc same in
-    let full : 15 < 15 = subst (λ at. length (stack_at (beside giving 15) at) < STACK_ROOM) (sym here) room in
-    omega (arith, full)
-
-is_full : IsEnabled beside_a_stack (beside giving 15) pushes → ⊥
-is_full enabled = has_no_room enabled.0 enabled.1.next enabled.3
+is_full : is_enabled beside_a_stack (beside giving 15) pushes ≡ false
+is_full = refl
 
 -- one value can be taken, and from an empty stack none
-single_can_be_taken : IsEnabled beside_a_stack (beside waiting 1) pops
-single_can_be_taken = (1, record { next = refl; memory = refl }, record { compute = refl; wants = refl }, lit< tt)
+single_can_be_taken : is_enabled beside_a_stack (beside waiting 1) pops ≡ true
+single_can_be_taken = refl
 
-has_nothing : (stack : ℕ) → Some 1 ≡ Some stack → 0 < length (stack_at (beside waiting 0) stack) → ⊥
-has_nothing stack same some =
-    let here : 1 ≡ stack = cc same in
-    let left : 0 < 0 = subst (λ at. 0 < length (stack_at (beside waiting 0) at)) (sym here) some in
-    omega (arith, left)
-
-is_empty : IsEnabled beside_a_stack (beside waiting 0) pops → ⊥
-is_empty enabled = has_nothing enabled.0 enabled.1.next enabled.3
+is_empty : is_enabled beside_a_stack (beside waiting 0) pops ≡ false
+is_empty = refl

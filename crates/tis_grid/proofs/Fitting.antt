@@ -1,21 +1,25 @@
 -- The start is a state of its grid, and so is what an event leads to.
-use Rattle.std.proofs.Common.{◌≡◌, ℕ, zero, suc, ◌-◌, ◌<◌, ◌≤◌, ℤ, List, [], ◌∷◌, ◌++◌, length, map, replicate, get_or, set, inl, inr, refl, sym, ap, ◌∙◌, subst, arith, length-append, length-take}
+use Rattle.std.proofs.Common.{◌≡◌, ℕ, zero, suc, ◌-◌, ◌<◌, ◌≤◌, ℤ, List, [], ◌∷◌, ◌++◌, length, map, replicate, get_or, set, true, false, cond, Option, Some, None, unwrap_or, inl, inr, refl, sym, ap, ◌∙◌, subst, arith, length-append, length-take}
+use Rattle.std.specs.Prelude.{All, Bool, is_some, ◌||◌, ◌==◌}
 use Rattle.std.specs.List.{range_with_len}
-use Rattle.std.proofs.lemmas.Bool.{cases_eq, cases_lt}
+use Rattle.std.proofs.lemmas.List.Elements.{All-nil, All-push, All-take, All-head, All-tail}
+use Rattle.std.proofs.lemmas.Bool.{cases_eq, cases_lt, ne_eqb}
 use Rattle.std.proofs.lemmas.List.{length-set, length-replicate, get_or-set_same, get_or-set_other, get_or_past, set_past}
 use Rattle.std.proofs.lemmas.List.FromFn.{length-map-range_with_len, get_or-map-range_with_len}
-use Rattle.tis_asm.specs.declared.program.MarkedInstr.{MarkedInstr}
+use Rattle.tis_base.specs.Saturation.{IsValue}
 use Rattle.tis_asm.specs.Node.{Node, fresh, FitsProgram}
+use Rattle.tis_asm.proofs.Progress.{fresh_fits}
 use Rattle.tis_grid.specs.declared.event.Event.{Event}
 use Rattle.tis_grid.specs.declared.event.Event.TheVariants.{Local, Meet, In, Out, Push, Pop}
-use Rattle.tis_grid.specs.Puzzle.{values_at}
-use Rattle.tis_grid.specs.State.{Grid, IsGrid, State, node_at, stack_at, left_at, start}
-use Rattle.tis_grid.specs.Events.{program_of, IsEnabled, offered, reached, after_event, without_newest, STACK_ROOM}
+use Rattle.tis_grid.specs.Puzzle.{Input, Output, values_at, has_input, has_output}
+use Rattle.tis_grid.specs.State.{Grid, IsGrid, State, node_at, stack_at, input_left, left_at, output_taken, whole_input, empty_output, start}
+use Rattle.tis_grid.specs.Events.{program_of, offered, reached, after_event, without_newest, STACK_ROOM}
 use Rattle.tis_grid.specs.Orders.{Fits}
 use Rattle.tis_grid.specs.TileSteps.{steps_in}
 use Rattle.tis_grid.proofs.Runs.{does_fit}
 use Rattle.tis_grid.proofs.Steps.{event_does}
-use Rattle.tis_grid.proofs.Enabled.{reached_is}
+use Rattle.tis_grid.proofs.Enabled.{Enables, reached_is}
+use Rattle.tis_grid.proofs.Held.{offered_value}
 
 -- ---- the start
 
@@ -25,30 +29,53 @@ get_or-replicate zero index value = refl
 get_or-replicate (suc count) zero value = refl
 get_or-replicate (suc count) (suc index) value = get_or-replicate count index value
 
--- a fresh node is one of each program
-fresh_fits : (program : List MarkedInstr) → FitsProgram program fresh
-fresh_fits [] = (refl, refl)
-fresh_fits (line ∷ program) = omega arith
-
--- an element of a list of counts isn't above the count
-count_within : (count : ℕ → ℕ) (columns position : ℕ) → get_or (map count (range_with_len 0 columns)) position 0 ≤ count position
-count_within count columns position =
+-- an element of a list by position is that of its position, and past the end there is none
+by_position : {X : Type 0} (at : ℕ → Option X) (P : ℕ → Option X → Type 0) → ((position : ℕ) → P position (at position)) → (columns position : ℕ) → (columns ≤ position → P position None) → P position (get_or (map at (range_with_len 0 columns)) position None)
+by_position {X} at P holds columns position none =
     elim (cases_lt position columns) [
-      | inl below ↦ let here = get_or-map-range_with_len count 0 columns position position 0 below (omega arith) in omega arith
-      | inr past ↦ let none = get_or_past (map count (range_with_len 0 columns)) position 0 (omega (arith, length-map-range_with_len count 0 columns)) in omega arith
+      | inl below ↦ subst (P position) (sym (get_or-map-range_with_len at 0 columns position position None below (omega arith))) (holds position)
+      | inr past ↦ subst (P position) (sym (get_or_past (map at (range_with_len 0 columns)) position None (omega (arith, length-map-range_with_len at 0 columns)))) (none past)
     ]
 
+-- a choice between something and nothing is there where the test holds
+is_some-choice : {X : Type 0} (test : Bool) (x : X) → is_some (cond test (Some x) None) ≡ test
+is_some-choice true x = refl
+is_some-choice false x = refl
+
+choice_within : (test : Bool) (count : ℕ) → unwrap_or (cond test (Some count) None) 0 ≤ count
+choice_within true count = omega arith
+choice_within false count = omega arith
+
+-- no port stands past the columns
+no_input_past : (columns position : ℕ) (inputs : List Input) → All (λ input. input.position < columns) inputs → columns ≤ position → false ≡ has_input inputs position
+no_input_past columns position [] below past = refl
+no_input_past columns position (input ∷ inputs) below past =
+    let first : input.position < columns = All-head (λ (i : Input). i.position < columns) input inputs below in
+    let apart : (input.position == position) ≡ false = ne_eqb input.position position (λ same. omega arith) in
+    no_input_past columns position inputs (All-tail (λ (i : Input). i.position < columns) input inputs below) past ∙ ap (λ (b : Bool). b || has_input inputs position) (sym apart)
+
+no_output_past : (columns position : ℕ) (outputs : List Output) → All (λ output. output.position < columns) outputs → columns ≤ position → false ≡ has_output outputs position
+no_output_past columns position [] below past = refl
+no_output_past columns position (output ∷ outputs) below past =
+    let first : output.position < columns = All-head (λ (o : Output). o.position < columns) output outputs below in
+    let apart : (output.position == position) ≡ false = ne_eqb output.position position (λ same. omega arith) in
+    no_output_past columns position outputs (All-tail (λ (o : Output). o.position < columns) output outputs below) past ∙ ap (λ (b : Bool). b || has_output outputs position) (sym apart)
+
 -- the start fits
-pub start_fitting : (grid : Grid) → Fits grid (start grid)
-start_fitting grid =
+pub start_fitting : (grid : Grid) → IsGrid grid → Fits grid (start grid)
+start_fitting grid is_grid =
+    let columns = grid.puzzle.tiles.shape.columns in
     record {
       nodes = length-replicate (length grid.puzzle.tiles.kinds) fresh;
       stacks = length-replicate {A = List ℤ} (length grid.puzzle.tiles.kinds) [];
-      left = length-map-range_with_len (λ position. length (values_at grid.puzzle.inputs position)) 0 grid.puzzle.tiles.shape.columns;
-      outs = length-replicate {A = List ℤ} grid.puzzle.tiles.shape.columns [];
+      left = length-map-range_with_len (λ position. whole_input grid.puzzle position) 0 columns;
+      outs = length-map-range_with_len (λ position. empty_output grid.puzzle position) 0 columns;
+      inputs = λ position. by_position (λ p. whole_input grid.puzzle p) (λ p o. is_some o ≡ has_input grid.puzzle.inputs p) (λ p. is_some-choice (has_input grid.puzzle.inputs p) (length (values_at grid.puzzle.inputs p))) columns position (no_input_past columns position grid.puzzle.inputs is_grid.puzzle.inputs_below);
+      outputs = λ position. by_position (λ p. empty_output grid.puzzle p) (λ p o. is_some o ≡ has_output grid.puzzle.outputs p) (λ p. is_some-choice {X = List ℤ} (has_output grid.puzzle.outputs p) []) columns position (no_output_past columns position grid.puzzle.outputs is_grid.puzzle.outputs_below);
       each = λ tile. subst (λ (node : Node). FitsProgram (program_of grid tile) node) (sym (get_or-replicate (length grid.puzzle.tiles.kinds) tile fresh)) (fresh_fits (program_of grid tile));
-      within = λ position. count_within (λ p. length (values_at grid.puzzle.inputs p)) grid.puzzle.tiles.shape.columns position;
+      within = λ position. by_position (λ p. whole_input grid.puzzle p) (λ p o. unwrap_or o 0 ≤ length (values_at grid.puzzle.inputs p)) (λ p. choice_within (has_input grid.puzzle.inputs p) (length (values_at grid.puzzle.inputs p))) columns position (λ past. omega arith);
       room = λ tile. let none : length (stack_at (start grid) tile) ≡ 0 = ap length (get_or-replicate {X = List ℤ} (length grid.puzzle.tiles.kinds) tile []) in omega arith;
+      values = λ tile. subst (λ (values : List ℤ). All IsValue values) (sym (get_or-replicate {X = List ℤ} (length grid.puzzle.tiles.kinds) tile [])) (All-nil IsValue);
     }
 
 -- ---- what an event keeps
@@ -108,18 +135,53 @@ module _ (grid : Grid) (state : State) where
   left_falls (In at) position =
       elim (cases_eq position at) [
         | inl here ↦ subst (λ (p : ℕ). left_at (after_event grid state (In at)) p ≤ left_at state p) (sym here) (falls_at at)
-        | inr elsewhere ↦ let same = get_or-set_other state.left at position (left_at state at - 1) 0 elsewhere in omega arith
+        | inr elsewhere ↦ let same = ap (λ (o : Option ℕ). unwrap_or o 0) (get_or-set_other state.left at position (Some (left_at state at - 1)) None elsewhere) in omega arith
       ]
     where
       -- the count of the input that gave a value falls
-      falls_at : (at : ℕ) → get_or (set state.left at (left_at state at - 1)) at 0 ≤ left_at state at
-      falls_at at = get_or-set_holds (λ n. n ≤ left_at state at) state.left at at (left_at state at - 1) 0 (omega arith) (omega arith)
+      falls_at : (at : ℕ) → unwrap_or (get_or (set state.left at (Some (left_at state at - 1))) at None) 0 ≤ left_at state at
+      falls_at at = get_or-set_holds (λ (o : Option ℕ). unwrap_or o 0 ≤ left_at state at) state.left at at (Some (left_at state at - 1)) None (omega arith) (omega arith)
   left_falls (Out at) position = omega arith
   left_falls (Push at dir) position = omega arith
   left_falls (Pop at dir) position = omega arith
 
+  -- an input that has a value left stands there
+  some_left : (count : Option ℕ) → 0 < unwrap_or count 0 → is_some count ≡ true
+  some_left None left = absurd (omega arith)
+  some_left (Some count) left = refl
+
+  -- the inputs stand where they stood
+  inputs_kept : Fits grid state → (event : Event) → Enables grid state event → (position : ℕ) → is_some (input_left (after_event grid state event) position) ≡ has_input grid.puzzle.inputs position
+  inputs_kept fits (Local at) is position = fits.inputs position
+  inputs_kept fits (Meet at dir) is position = fits.inputs position
+  inputs_kept fits (In at) is position =
+      elim (cases_eq position at) [
+        | inl here ↦
+            let stands : is_some (input_left state position) ≡ true = some_left (input_left state position) (subst (λ (p : ℕ). 0 < left_at state p) (sym here) is.1) in
+            get_or-set_holds (λ (o : Option ℕ). is_some o ≡ has_input grid.puzzle.inputs position) state.left at position (Some (left_at state at - 1)) None (sym stands ∙ fits.inputs position) (fits.inputs position)
+        | inr elsewhere ↦ ap (λ (o : Option ℕ). is_some o) (get_or-set_other state.left at position (Some (left_at state at - 1)) None elsewhere) ∙ fits.inputs position
+      ]
+  inputs_kept fits (Out at) is position = fits.inputs position
+  inputs_kept fits (Push at dir) is position = fits.inputs position
+  inputs_kept fits (Pop at dir) is position = fits.inputs position
+
+  -- and so do the outputs
+  outputs_kept : Fits grid state → (event : Event) → Enables grid state event → (position : ℕ) → is_some (output_taken (after_event grid state event) position) ≡ has_output grid.puzzle.outputs position
+  outputs_kept fits (Local at) is position = fits.outputs position
+  outputs_kept fits (Meet at dir) is position = fits.outputs position
+  outputs_kept fits (In at) is position = fits.outputs position
+  outputs_kept fits (Out at) is position =
+      elim (cases_eq position at) [
+        | inl here ↦
+            let stands : has_output grid.puzzle.outputs position ≡ true = subst (λ (p : ℕ). has_output grid.puzzle.outputs p ≡ true) (sym here) is.1 in
+            get_or-set_holds (λ (o : Option (List ℤ)). is_some o ≡ has_output grid.puzzle.outputs position) state.outs at position _ None (sym stands) (fits.outputs position)
+        | inr elsewhere ↦ ap (λ (o : Option (List ℤ)). is_some o) (get_or-set_other state.outs at position _ None elsewhere) ∙ fits.outputs position
+      ]
+  outputs_kept fits (Push at dir) is position = fits.outputs position
+  outputs_kept fits (Pop at dir) is position = fits.outputs position
+
   -- no stack has more than it holds
-  room_kept : (event : Event) → IsEnabled grid state event → ((tile : ℕ) → length (stack_at state tile) ≤ STACK_ROOM) → (tile : ℕ) → length (stack_at (after_event grid state event) tile) ≤ STACK_ROOM
+  room_kept : (event : Event) → Enables grid state event → ((tile : ℕ) → length (stack_at state tile) ≤ STACK_ROOM) → (tile : ℕ) → length (stack_at (after_event grid state event) tile) ≤ STACK_ROOM
   room_kept (Local at) is room tile = room tile
   room_kept (Meet at dir) is room tile = room tile
   room_kept (In position) is room tile = room tile
@@ -134,15 +196,33 @@ module _ (grid : Grid) (state : State) where
       let values = stack_at state (reached grid at.number dir) in
       get_or-set_holds (λ (values : List ℤ). length values ≤ STACK_ROOM) state.stacks (reached grid at.number dir) tile (without_newest values) [] (omega (arith, length-take (length values - 1) values, room (reached grid at.number dir))) (room tile)
 
+  -- stacks hold values
+  values_kept : Fits grid state → (event : Event) → Enables grid state event → (tile : ℕ) → All IsValue (stack_at (after_event grid state event) tile)
+  values_kept fits (Local at) is tile = fits.values tile
+  values_kept fits (Meet at dir) is tile = fits.values tile
+  values_kept fits (In position) is tile = fits.values tile
+  values_kept fits (Out position) is tile = fits.values tile
+  values_kept fits (Push at dir) is tile =
+      let stack = reached grid at.number dir in
+      get_or-set_holds (λ (values : List ℤ). All IsValue values) state.stacks stack tile (stack_at state stack ++ offered state at.number dir ∷ []) []
+      (All-push IsValue (stack_at state stack) (offered state at.number dir) (fits.values stack) (offered_value grid state at.number dir fits is.2)) (fits.values tile)
+  values_kept fits (Pop at dir) is tile =
+      let values = stack_at state (reached grid at.number dir) in
+      get_or-set_holds (λ (values : List ℤ). All IsValue values) state.stacks (reached grid at.number dir) tile (without_newest values) []
+      (All-take IsValue (length values - 1) values (fits.values (reached grid at.number dir))) (fits.values tile)
+
   -- the state after an event fits
-  pub event_fitting : (event : Event) → IsGrid grid → Fits grid state → IsEnabled grid state event → Fits grid (after_event grid state event)
+  pub event_fitting : (event : Event) → IsGrid grid → Fits grid state → Enables grid state event → Fits grid (after_event grid state event)
   event_fitting event is_grid fits is =
       record {
         nodes = nodes_kept event ∙ fits.nodes;
         stacks = stacks_kept event ∙ fits.stacks;
         left = left_kept event ∙ fits.left;
         outs = outs_kept event ∙ fits.outs;
-        each = λ tile. does_fit (program_of grid tile) (node_at state tile) (steps_in grid state event tile) (node_at (after_event grid state event) tile) (fits.each tile) (event_does grid state is_grid fits tile event is);
+        inputs = inputs_kept fits event is;
+        outputs = outputs_kept fits event is;
+        each = λ tile. does_fit (program_of grid tile) (node_at state tile) (steps_in grid state event tile) (node_at (after_event grid state event) tile) (is_grid.programs.values tile) (is_grid.sound tile) (fits.each tile) (event_does grid state is_grid fits tile event is);
         within = λ position. omega (arith, left_falls event position, fits.within position);
         room = room_kept event is fits.room;
+        values = values_kept fits event is;
       }

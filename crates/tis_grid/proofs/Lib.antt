@@ -3,6 +3,8 @@ pub mod Ports
 pub mod Runs
 pub mod Acting
 pub mod Enabled
+pub mod Total
+pub mod Held
 pub mod Steps
 pub mod Fitting
 pub mod Links
@@ -10,3 +12,5 @@ pub mod Edges
 pub mod Counting
 pub mod Grids
 mod Examples
+pub mod Listed
+pub mod DrawnOrders

@@ -9,12 +9,13 @@ use Rattle.tis_asm.specs.PortRuns.{Took, Gave, taken_from, given_to}
 use Rattle.tis_grid.specs.declared.event.Event.{Event}
 use Rattle.tis_grid.specs.declared.event.Event.TheVariants.{Local, Meet, In, Out, Push, Pop}
 use Rattle.tis_grid.specs.State.{Grid, IsGrid, State, stack_at, next_value}
-use Rattle.tis_grid.specs.Events.{next_tile, bottom_of, IsEnabled, offered, reached, newest, after_event}
-use Rattle.tis_grid.specs.Orders.{Fits, IsLegal}
+use Rattle.tis_grid.specs.Events.{next_tile, bottom_of, offered, reached, newest, after_event}
+use Rattle.tis_grid.specs.Orders.{Fits}
+use Rattle.tis_grid.proofs.Total.{Runs}
 use Rattle.tis_grid.specs.TileSteps.{step_at, steps_in, steps_of}
 use Rattle.tis_grid.proofs.Places.{next_back, next_one, not_top, none_below, some_columns, some_rows, compute_within}
 use Rattle.tis_grid.proofs.Ports.{opposite_twice, given_append, taken_append, local_gives_none, local_takes_none, took_gives_none, gave_takes_none, gives_none, takes_none, meeting_passes}
-use Rattle.tis_grid.proofs.Enabled.{meeting, stack_apart}
+use Rattle.tis_grid.proofs.Enabled.{Enables, meeting, stack_apart}
 use Rattle.tis_grid.proofs.Fitting.{event_fitting}
 
 module _ (grid : Grid) (is_grid : IsGrid grid) (tile : ℕ) (dir : Dir) (reader : ℕ) (next : next_tile grid tile dir ≡ Some reader) (here : IsCompute grid.puzzle.tiles tile) (there : IsCompute grid.puzzle.tiles reader) where
@@ -23,7 +24,7 @@ module _ (grid : Grid) (is_grid : IsGrid grid) (tile : ℕ) (dir : Dir) (reader 
   back = next_back grid.puzzle.tiles.shape tile dir reader (some_columns grid.puzzle.tiles is_grid.puzzle.board) (compute_within grid.puzzle.tiles tile is_grid.puzzle.board here) next
 
   -- one event passes a value along the link or leaves it alone
-  event_passes : (state : State) (event : Event) → IsEnabled grid state event → given_to dir (steps_in grid state event tile) ≡ taken_from (opposite dir) (steps_in grid state event reader)
+  event_passes : (state : State) (event : Event) → Enables grid state event → given_to dir (steps_in grid state event tile) ≡ taken_from (opposite dir) (steps_in grid state event reader)
   event_passes state (Local at) is = local_gives_none dir tile at.number ∙ sym (local_takes_none (opposite dir) reader at.number)
   event_passes state (Meet at port) is =
       let meets = meeting grid state at port is in
@@ -58,7 +59,7 @@ module _ (grid : Grid) (is_grid : IsGrid grid) (tile : ℕ) (dir : Dir) (reader 
       ∙ sym (takes_none (opposite dir) reader at.number port value (λ same to. stack_apart grid at.number port is.0 tile is.1 (ap₂ (λ (t : ℕ) (d : Dir). next_tile grid t d) same to ∙ back) here))
 
   -- an order passes values along the link in turn
-  pub order_passes : (state : State) (events : List Event) → Fits grid state → IsLegal grid state events → given_to dir (steps_of grid state events tile) ≡ taken_from (opposite dir) (steps_of grid state events reader)
+  pub order_passes : (state : State) (events : List Event) → Fits grid state → Runs grid state events → given_to dir (steps_of grid state events tile) ≡ taken_from (opposite dir) (steps_of grid state events reader)
   order_passes state [] fits legal = refl
   order_passes state (event ∷ events) fits legal =
       let then = after_event grid state event in

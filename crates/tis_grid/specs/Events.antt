@@ -1,15 +1,15 @@
 -- What can happen on a grid: when each event is enabled, and what it does.
-use Rattle.std.specs.Prelude.{◌≡◌, ℕ, ◌+◌, ◌-◌, ◌*◌, ◌<◌, ℤ, pos, [], ◌∷◌, ◌++◌, List, length, take, Option, Some, unwrap_or, slice_get, slice_set, slice_index_or, IsTrue}
-use Rattle.tis_base.specs.Tiles.{IsCompute, neighbour_of, opposite}
+use Rattle.std.specs.Prelude.{ℕ, ◌+◌, ◌-◌, ◌*◌, ℤ, pos, Bool, false, ◌&&◌, [], ◌∷◌, ◌++◌, List, length, take, get_or, Option, Some, None, is_some, unwrap_or, option_map, slice_set, slice_index_or, nat_lt, IsTrue, if◌then◌else◌}
+use Rattle.tis_base.specs.Tiles.{is_compute, is_memory, neighbour_of, opposite}
 use Rattle.tis_base.specs.declared.tiles.Dir.{Dir}
 use Rattle.tis_base.specs.declared.tiles.Dir.TheVariants.{Up, Down}
-use Rattle.tis_base.specs.declared.tiles.TileKind.TheVariants as kinds
+use Rattle.tis_base.specs.declared.tiles.TileKind.TheVariants.{Damaged}
 use Rattle.tis_asm.specs.declared.program.MarkedInstr.{MarkedInstr}
 use Rattle.tis_asm.specs.Programs.{program_at}
 use Rattle.tis_asm.specs.Node.{Node, can_local, local_step, wants, take_value, offers, gave}
 use Rattle.tis_grid.specs.declared.event.Event.{Event}
 use Rattle.tis_grid.specs.declared.event.Event.TheVariants.{Local, Meet, In, Out, Push, Pop}
-use Rattle.tis_grid.specs.Puzzle.{HasOutput}
+use Rattle.tis_grid.specs.Puzzle.{has_output}
 use Rattle.tis_grid.specs.State.{Grid, State, node_at, stack_at, left_at, outs, next_value}
 
 -- the program of a tile
@@ -26,40 +26,53 @@ bottom_of grid position = position + grid.puzzle.tiles.shape.columns * (grid.puz
 
 -- ---- when an event is enabled
 
--- a compute tile waits for a value from this port
-pub record Wants (grid : Grid) (state : State) (tile : ℕ) (dir : Dir) : Type 0 where
-  pub compute : IsCompute grid.puzzle.tiles tile
-  pub wants : IsTrue (wants (program_of grid tile) (node_at state tile) dir)
+-- whether a tile is there and is of a kind
+abbrev pub is_compute_at : Grid → ℕ → Bool
+is_compute_at grid tile = is_compute (get_or grid.puzzle.tiles.kinds tile Damaged)
 
--- a compute tile gives a value to this port
-pub record Offers (grid : Grid) (state : State) (tile : ℕ) (dir : Dir) : Type 0 where
-  pub compute : IsCompute grid.puzzle.tiles tile
-  pub value : ℤ
-  pub offers : offers (node_at state tile) dir ≡ Some value
+abbrev pub is_memory_at : Grid → ℕ → Bool
+is_memory_at grid tile = is_memory (get_or grid.puzzle.tiles.kinds tile Damaged)
 
--- the tile that is next in a direction is a stack
-pub record MeetsStack (grid : Grid) (tile : ℕ) (dir : Dir) (stack : ℕ) : Type 0 where
-  pub next : next_tile grid tile dir ≡ Some stack
-  pub memory : slice_get grid.puzzle.tiles.kinds stack ≡ Some kinds.Memory
+-- whether a compute tile waits for a value from this port
+abbrev pub is_waiting : Grid → State → ℕ → Dir → Bool
+is_waiting grid state tile dir = is_compute_at grid tile && wants (program_of grid tile) (node_at state tile) dir
+
+-- whether a compute tile gives a value to this port
+abbrev pub is_giving : Grid → State → ℕ → Dir → Bool
+is_giving grid state tile dir = is_compute_at grid tile && is_some (offers (node_at state tile) dir)
 
 -- how many values a stack holds at most
 abbrev pub STACK_ROOM : ℕ
 STACK_ROOM = 15
 
+-- whether a stack takes one more value, or has one to give
+abbrev pub has_room : Grid → State → ℕ → Bool
+has_room grid state tile = is_memory_at grid tile && nat_lt (length (stack_at state tile)) STACK_ROOM
+
+abbrev pub has_value : Grid → State → ℕ → Bool
+has_value grid state tile = is_memory_at grid tile && nat_lt 0 (length (stack_at state tile))
+
+-- whether a tile is next in a direction and passes a test
+abbrev pub is_next : Grid → ℕ → Dir → (ℕ → Bool) → Bool
+is_next grid tile dir test = unwrap_or (option_map test (next_tile grid tile dir)) false
+
 -- whether an event can happen next
-abbrev pub IsEnabled : Grid → State → Event → Type 0
+abbrev pub is_enabled : Grid → State → Event → Bool
 -- a compute tile can do an instruction without a port
-IsEnabled grid state (Local tile) = IsCompute grid.puzzle.tiles tile.number × IsTrue (can_local (program_of grid tile.number) (node_at state tile.number))
+is_enabled grid state (Local tile) = is_compute_at grid tile.number && can_local (program_of grid tile.number) (node_at state tile.number)
 -- a compute tile gives to its neighbour, which waits for it
-IsEnabled grid state (Meet tile dir) = (reader : ℕ) × (next_tile grid tile.number dir ≡ Some reader) × Offers grid state tile.number dir × Wants grid state reader (opposite dir)
+is_enabled grid state (Meet tile dir) = is_giving grid state tile.number dir && is_next grid tile.number dir (λ reader. is_waiting grid state reader (opposite dir))
 -- an input has a value left, and the tile below it, in the top row, waits for it
-IsEnabled grid state (In position) = (position < grid.puzzle.tiles.shape.columns) × (0 < left_at state position) × Wants grid state position Up
+is_enabled grid state (In position) = nat_lt position grid.puzzle.tiles.shape.columns && (nat_lt 0 (left_at state position) && is_waiting grid state position Up)
 -- the tile above an output, in the bottom row, gives to it
-IsEnabled grid state (Out position) = (position < grid.puzzle.tiles.shape.columns) × HasOutput grid.puzzle.outputs position × Offers grid state (bottom_of grid position) Down
+is_enabled grid state (Out position) = nat_lt position grid.puzzle.tiles.shape.columns && (has_output grid.puzzle.outputs position && is_giving grid state (bottom_of grid position) Down)
 -- a compute tile gives to a stack that isn't full
-IsEnabled grid state (Push tile dir) = (stack : ℕ) × MeetsStack grid tile.number dir stack × Offers grid state tile.number dir × (length (stack_at state stack) < STACK_ROOM)
+is_enabled grid state (Push tile dir) = is_giving grid state tile.number dir && is_next grid tile.number dir (has_room grid state)
 -- a compute tile waits for a value from a stack that isn't empty
-IsEnabled grid state (Pop tile dir) = (stack : ℕ) × MeetsStack grid tile.number dir stack × Wants grid state tile.number dir × (0 < length (stack_at state stack))
+is_enabled grid state (Pop tile dir) = is_waiting grid state tile.number dir && is_next grid tile.number dir (has_value grid state)
+
+abbrev pub IsEnabled : Grid → State → Event → Type 0
+IsEnabled grid state event = IsTrue (is_enabled grid state event)
 
 -- ---- what an event does, where it is enabled
 
@@ -96,7 +109,11 @@ without_newest values = take (length values - 1) values
 abbrev pub after_event : Grid → State → Event → State
 after_event grid state (Local tile) = with_node state tile.number (local_step (program_of grid tile.number) (node_at state tile.number))
 after_event grid state (Meet tile dir) = given grid (took grid state (reached grid tile.number dir) (opposite dir) (offered state tile.number dir)) tile.number dir
-after_event grid state (In position) = record (took grid state position Up (next_value grid state position)) { left = slice_set state.left position (left_at state position - 1) }
-after_event grid state (Out position) = record (given grid state (bottom_of grid position) Down) { outs = slice_set state.outs position (outs state position ++ offered state (bottom_of grid position) Down ∷ []) }
+after_event grid state (In position) = record (took grid state position Up (next_value grid state position)) { left = slice_set state.left position (Some (left_at state position - 1)) }
+after_event grid state (Out position) = record (given grid state (bottom_of grid position) Down) { outs = slice_set state.outs position (Some (outs state position ++ offered state (bottom_of grid position) Down ∷ [])) }
 after_event grid state (Push tile dir) = with_stack (given grid state tile.number dir) (reached grid tile.number dir) (stack_at state (reached grid tile.number dir) ++ offered state tile.number dir ∷ [])
 after_event grid state (Pop tile dir) = with_stack (took grid state tile.number dir (newest (stack_at state (reached grid tile.number dir)))) (reached grid tile.number dir) (without_newest (stack_at state (reached grid tile.number dir)))
+
+-- the state after an event, where it is enabled
+abbrev pub step : Grid → State → Event → Option State
+step grid state event = if is_enabled grid state event then Some (after_event grid state event) else None

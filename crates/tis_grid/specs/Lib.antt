@@ -3,4 +3,6 @@ pub mod State
 pub mod Events
 pub mod Orders
 pub mod TileSteps
+pub mod Choices
+pub mod Drawn
 pub mod Laws

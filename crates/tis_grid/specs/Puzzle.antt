@@ -1,5 +1,6 @@
 -- Puzzles as contracts see them: records, lists and numbers.
-use Rattle.std.specs.Prelude.{◌≡◌, ◌≢◌, ℕ, ◌<◌, ℤ, List, [], ◌∷◌, map, All, AllPairs, Any, ◌==◌, if◌then◌else◌}
+use Rattle.std.specs.Prelude.{◌≡◌, ◌≢◌, ℕ, ◌<◌, ℤ, Bool, List, [], ◌∷◌, map, All, AllPairs, IsTrue, ◌==◌, if◌then◌else◌}
+use Rattle.std.specs.List.{list_any}
 use Rattle.tis_base.specs.Saturation.{IsValue}
 use Rattle.tis_base.specs.Tiles.{Tiles, AreTiles}
 use Rattle.tis_grid.specs.declared.puzzle.OutKind.{OutKind}
@@ -47,6 +48,13 @@ abbrev pub values_at : List Input → ℕ → List ℤ
 values_at [] position = []
 values_at (input ∷ inputs) position = if input.position == position then input.values else values_at inputs position
 
--- an output stands at this position
+-- whether an input stands at this position
+abbrev pub has_input : List Input → ℕ → Bool
+has_input inputs position = list_any (λ input. input.position == position) inputs
+
+-- whether an output stands at this position
+abbrev pub has_output : List Output → ℕ → Bool
+has_output outputs position = list_any (λ output. output.position == position) outputs
+
 abbrev pub HasOutput : List Output → ℕ → Type 0
-HasOutput outputs position = Any (λ output. output.position ≡ position) outputs
+HasOutput outputs position = IsTrue (has_output outputs position)

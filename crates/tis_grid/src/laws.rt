@@ -1,10 +1,10 @@
 //! Laws of every grid, whatever its programs and whatever the order.
-ghost use Rattle.tis_grid.specs.Laws.{StartFits, EventsKeepFitting, OrdersAreRuns, LinksPassAll, InputsPassAll, OutputsPassAll, StepsCountEvents};
+ghost use Rattle.tis_grid.specs.Laws.{StartFits, OrdersKeepFitting, OrdersAreRuns, LinksPassAll, InputsPassAll, OutputsPassAll, StepsCountEvents, EnabledAreListed, RestListsNone, DrawnOrdersAreLegal};
 
-/// The start of a grid is a state of it, and so is what an enabled event leads to.
+/// The start of a grid is a state of it, and so is what a legal order leads to.
 pub fn states_fit()
     ensures start { StartFits }
-    ensures events { EventsKeepFitting }
+    ensures orders { OrdersKeepFitting }
 {}
 
 /// Seen from one tile, an order is steps that its node can make, and leads to the node that these
@@ -24,4 +24,15 @@ pub fn links_pass_all()
 /// Each event is a step of some tile.
 pub fn events_are_counted()
     ensures steps { StepsCountEvents }
+{}
+
+/// An event is listed exactly where it is enabled, and none is listed exactly at rest.
+pub fn enabled_events_are_listed()
+    ensures listed { EnabledAreListed }
+    ensures rest { RestListsNone }
+{}
+
+/// An order that is drawn from a seed is legal, and ends before it may only at rest.
+pub fn drawn_orders_are_legal()
+    ensures drawn { DrawnOrdersAreLegal }
 {}

@@ -6,5 +6,7 @@ mod laws;
 mod puzzle;
 
 pub use event::Event;
-pub use laws::{events_are_counted, links_pass_all, orders_are_runs, states_fit};
+pub use laws::{
+    drawn_orders_are_legal, enabled_events_are_listed, events_are_counted, links_pass_all, orders_are_runs, states_fit,
+};
 pub use puzzle::{InputAt, OutKind, OutputAt, Puzzle};

@@ -1,6 +1,6 @@
--- The lemmas that the start fits and that events keep fitting.
+-- The lemmas that the start fits and that orders keep fitting.
 use Rattle.tis_grid.proofs.Grids as Grids
 use Rattle.tis_grid.proofs.laws.states_fit.Goals as goal
 
 pub returns : goal.returns
-returns c = record { start = Grids.start_fits; events = Grids.events_keep_fitting }
+returns c = record { start = Grids.start_fits; orders = Grids.orders_keep_fitting }

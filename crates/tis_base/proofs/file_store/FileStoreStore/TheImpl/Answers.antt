@@ -9,6 +9,8 @@ fetch-tells g c = record {
   missing_counted = c.ensures.missing_counted;
   failed_counted = c.ensures.failed_counted;
   texts_stay = refl;
+  faults_stay = c.ensures.faults_stay;
+  misses_stay = c.ensures.misses_stay;
   faults_never_fall = c.ensures.faults_never_fall;
   misses_never_fall = c.ensures.misses_never_fall;
 }
@@ -19,6 +21,7 @@ keep-tells g c = record {
   err = IfErr-always c.result _ (λ _. refl);
   never_missing = c.ensures.never_missing;
   failed_counted = c.ensures.failed_counted;
+  faults_stay = c.ensures.faults_stay;
+  misses_stay = c.ensures.misses_stay;
   faults_never_fall = c.ensures.faults_never_fall;
-  misses_never_fall = c.ensures.misses_never_fall;
 }

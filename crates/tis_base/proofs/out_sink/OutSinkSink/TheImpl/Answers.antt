@@ -8,5 +8,6 @@ put-tells g c = record {
   failed = c.ensures.failed;
   failed_counted = c.ensures.failed_counted;
   no_memory = λ _. refl;
+  faults_stay = c.ensures.faults_stay;
   faults_never_fall = c.ensures.faults_never_fall;
 }

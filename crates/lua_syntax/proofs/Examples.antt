@@ -1,0 +1,76 @@
+-- Small texts and what they are, computed.
+use Rattle.std.proofs.Common.{◌≡◌, ◌++◌, List, [], ◌∷◌, Ok, Err, Result, refl}
+use Rattle.std.specs.Prelude.{codes, pos, None, Some}
+use Rattle.lua_syntax.specs.declared.tree.Item.{Item}
+use Rattle.lua_syntax.specs.declared.tree.Item.TheVariants as item
+use Rattle.lua_syntax.specs.declared.tree.Expr.TheVariants as e
+use Rattle.lua_syntax.specs.declared.tree.Entry.TheVariants as entry
+use Rattle.lua_syntax.specs.declared.tree.BinaryOp.TheVariants as binary
+use Rattle.lua_syntax.specs.declared.tree.UnaryOp.TheVariants as unary
+use Rattle.lua_syntax.specs.declared.tree.LuaStatement.TheVariants as statement
+use Rattle.lua_syntax.specs.declared.tree.LuaBlock.{roll-LuaBlock}
+use Rattle.lua_syntax.specs.declared.error.LuaSyntax.TheVariants.{Syntax, TooDeep}
+use Rattle.lua_syntax.specs.Grammar.{row}
+use Rattle.lua_syntax.specs.Building.{act, act_expression, act_list, act_statement, act_block, act_item}
+use Rattle.lua_syntax.specs.Tokens.{word_kind, numeral_kind, quoted, word_piece, numeral_piece, string_piece, comment_piece, sign_piece, piece, tokens}
+use Rattle.lua_syntax.specs.Reading.{step, run, tree_of}
+
+-- the half of seven, rounded down
+half : tree_of (codes "function f() return math.floor(7 / 2) end") ≡ Ok (item.Function (codes "f") [] (roll-LuaBlock (record { statements = statement.Return (Some (e.MathCall (codes "floor") (e.Binary binary.Over (e.Number (pos 7)) (e.Number (pos 2)) 1 ∷ []) 1)) ∷ [] })) ∷ [])
+unfolding row act act_expression act_list act_statement act_block act_item word_kind numeral_kind quoted word_piece numeral_piece string_piece comment_piece sign_piece piece tokens step run tree_of
+half = refl
+
+-- `..` groups to the right
+join_groups_to_the_right : tree_of (codes "x = a..b..c") ≡ Ok (item.Assign (codes "x") (e.Binary binary.Join (e.Name (codes "a")) (e.Binary binary.Join (e.Name (codes "b")) (e.Name (codes "c")) 1) 1) ∷ [])
+unfolding row act act_expression act_list act_statement act_block act_item word_kind numeral_kind quoted word_piece numeral_piece string_piece comment_piece sign_piece piece tokens step run tree_of
+join_groups_to_the_right = refl
+
+-- `-` groups to the left, and binds weaker than `*`
+minus_groups_to_the_left : tree_of (codes "x = a-b-c*d") ≡ Ok (item.Assign (codes "x") (e.Binary binary.Minus (e.Binary binary.Minus (e.Name (codes "a")) (e.Name (codes "b")) 1) (e.Binary binary.Times (e.Name (codes "c")) (e.Name (codes "d")) 1) 1) ∷ [])
+unfolding row act act_expression act_list act_statement act_block act_item word_kind numeral_kind quoted word_piece numeral_piece string_piece comment_piece sign_piece piece tokens step run tree_of
+minus_groups_to_the_left = refl
+
+-- `not` binds tighter than `==`
+not_binds_tighter : tree_of (codes "x = not a == b") ≡ Ok (item.Assign (codes "x") (e.Binary binary.Equal (e.Unary unary.Not (e.Name (codes "a")) 1) (e.Name (codes "b")) 1) ∷ [])
+unfolding row act act_expression act_list act_statement act_block act_item word_kind numeral_kind quoted word_piece numeral_piece string_piece comment_piece sign_piece piece tokens step run tree_of
+not_binds_tighter = refl
+
+-- the three items of a constructor, with their lines
+items : tree_of (codes "x = {a = 1, [b] = 2; c,}") ≡ Ok (item.Assign (codes "x") (e.Construct (entry.Named (codes "a") (e.Number (pos 1)) ∷ entry.Keyed (e.Name (codes "b")) (e.Number (pos 2)) 1 ∷ entry.Value (e.Name (codes "c")) ∷ [])) ∷ [])
+unfolding row act act_expression act_list act_statement act_block act_item word_kind numeral_kind quoted word_piece numeral_piece string_piece comment_piece sign_piece piece tokens step run tree_of
+items = refl
+
+-- an escape stands for its byte
+an_escape : tree_of (codes "x = 'a" ++ 92 ∷ 110 ∷ codes "'") ≡ Ok (item.Assign (codes "x") (e.Str (97 ∷ 10 ∷ []) 1) ∷ [])
+unfolding row act act_expression act_list act_statement act_block act_item word_kind numeral_kind quoted word_piece numeral_piece string_piece comment_piece sign_piece piece tokens step run tree_of
+an_escape = refl
+
+-- a library is a plain name where no call follows
+a_library_alone : tree_of (codes "x = math.pi") ≡ Ok (item.Assign (codes "x") (e.Member (e.Name (codes "math")) (codes "pi") 1) ∷ [])
+unfolding row act act_expression act_list act_statement act_block act_item word_kind numeral_kind quoted word_piece numeral_piece string_piece comment_piece sign_piece piece tokens step run tree_of
+a_library_alone = refl
+
+-- a text that ends too early
+ends_too_early : tree_of (codes "x = 1 +") ≡ Err (Syntax 1)
+unfolding row act act_expression act_list act_statement act_block act_item word_kind numeral_kind quoted word_piece numeral_piece string_piece comment_piece sign_piece piece tokens step run tree_of
+ends_too_early = refl
+
+-- half a definition
+half_a_function : tree_of (codes "function f(") ≡ Err (Syntax 1)
+unfolding row act act_expression act_list act_statement act_block act_item word_kind numeral_kind quoted word_piece numeral_piece string_piece comment_piece sign_piece piece tokens step run tree_of
+half_a_function = refl
+
+-- a word that is reserved and begins nothing
+no_goto : tree_of (codes "function f() goto a end") ≡ Err (Syntax 1)
+unfolding row act act_expression act_list act_statement act_block act_item word_kind numeral_kind quoted word_piece numeral_piece string_piece comment_piece sign_piece piece tokens step run tree_of
+no_goto = refl
+
+-- a local outside a function, on the second line
+no_local_outside : tree_of (codes "x = 1" ++ 10 ∷ codes "local y = 1") ≡ Err (Syntax 2)
+unfolding row act act_expression act_list act_statement act_block act_item word_kind numeral_kind quoted word_piece numeral_piece string_piece comment_piece sign_piece piece tokens step run tree_of
+no_local_outside = refl
+
+-- an expression in parentheses has no members
+no_member_of_parentheses : tree_of (codes "x = (a).b") ≡ Err (Syntax 1)
+unfolding row act act_expression act_list act_statement act_block act_item word_kind numeral_kind quoted word_piece numeral_piece string_piece comment_piece sign_piece piece tokens step run tree_of
+no_member_of_parentheses = refl

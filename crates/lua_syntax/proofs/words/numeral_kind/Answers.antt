@@ -1,0 +1,13 @@
+use Rattle.std.proofs.Common.{◌≡◌, ◌<◌, ap, ◌∙◌, arith, w64}
+use Rattle.std.specs.Prelude.{pos}
+use Rattle.std.proofs.lemmas.Int.{to_z_pos}
+use Rattle.lua_syntax.specs.declared.kind.Kind.TheVariants as k
+use Rattle.lua_syntax.specs.Tokens.{held_value}
+use Rattle.lua_syntax.proofs.Numerals.{numeral_fits, numeral_too_large}
+use Rattle.lua_syntax.proofs.words.numeral_kind.Goals as goal
+
+pub returns-then-n-lt-BOUND : goal.returns-then-n-lt-BOUND
+returns-then-n-lt-BOUND c = rw (to_z_pos w64 c.value-n.result (omega arith), c.value-n.ensures.value) (numeral_fits c.args.digits.now (rw (← c.value-n.ensures.value) c.if-n-lt-BOUND.true))
+
+pub returns-else-n-lt-BOUND : goal.returns-else-n-lt-BOUND
+returns-else-n-lt-BOUND c = numeral_too_large c.args.digits.now (rw (← c.value-n.ensures.value) c.if-n-lt-BOUND.false)

@@ -1,0 +1,189 @@
+//! The tree of a text: one variant for each form of the language. Parentheses leave no mark.
+use crate::text::Text;
+use sqlite_items::{Boxed, Items};
+
+/// A definition of the chunk.
+#[derive(Drop)]
+pub enum Item {
+    /// `function name(params) body end`
+    Function {
+        name: Text,
+        params: Items<Text>,
+        body: LuaBlock,
+    },
+    /// `name = value`
+    Assign { name: Text, value: Expr },
+}
+
+/// Statements, in order.
+#[cycle(block)]
+#[derive(Drop)]
+pub struct LuaBlock {
+    pub statements: Items<LuaStatement>,
+}
+
+/// A test with the block that follows where it holds.
+#[cycle(block)]
+#[derive(Drop)]
+pub struct Arm {
+    pub test: Expr,
+    pub body: LuaBlock,
+}
+
+/// A statement. A line is the one that a fault of this form names.
+#[cycle(block)]
+#[derive(Drop)]
+pub enum LuaStatement {
+    Local {
+        name: Text,
+        value: Option<Expr>,
+    },
+    Assign {
+        name: Text,
+        value: Expr,
+    },
+    SetIndex {
+        table: Expr,
+        key: Expr,
+        value: Expr,
+        line: usize,
+    },
+    SetMember {
+        table: Expr,
+        name: Text,
+        value: Expr,
+        line: usize,
+    },
+    Call {
+        call: Expr,
+    },
+    /// An `elseif` is a further arm.
+    If {
+        arms: Items<Arm>,
+        otherwise: Option<LuaBlock>,
+    },
+    While {
+        test: Expr,
+        body: LuaBlock,
+    },
+    Repeat {
+        body: LuaBlock,
+        test: Expr,
+    },
+    For {
+        name: Text,
+        first: Expr,
+        last: Expr,
+        step: Option<Expr>,
+        body: LuaBlock,
+        line: usize,
+    },
+    Do {
+        body: LuaBlock,
+    },
+    Break,
+    Return {
+        value: Option<Expr>,
+    },
+}
+
+/// An expression. A line is the one that a fault of this form names.
+#[cycle(expression)]
+#[derive(Drop)]
+pub enum Expr {
+    Nil,
+    True,
+    False,
+    Number {
+        value: i64,
+    },
+    Str {
+        text: Text,
+        line: usize,
+    },
+    Name {
+        name: Text,
+    },
+    Index {
+        table: Boxed<Expr>,
+        key: Boxed<Expr>,
+        line: usize,
+    },
+    Member {
+        table: Boxed<Expr>,
+        name: Text,
+        line: usize,
+    },
+    Call {
+        name: Text,
+        args: Items<Expr>,
+        line: usize,
+    },
+    MathCall {
+        name: Text,
+        args: Items<Expr>,
+        line: usize,
+    },
+    TableCall {
+        name: Text,
+        args: Items<Expr>,
+        line: usize,
+    },
+    Construct {
+        entries: Items<Entry>,
+    },
+    Unary {
+        op: UnaryOp,
+        of: Boxed<Expr>,
+        line: usize,
+    },
+    Binary {
+        op: BinaryOp,
+        left: Boxed<Expr>,
+        right: Boxed<Expr>,
+        line: usize,
+    },
+}
+
+/// An item of a constructor.
+#[cycle(expression)]
+#[derive(Drop)]
+pub enum Entry {
+    Value {
+        value: Expr,
+    },
+    Named {
+        name: Text,
+        value: Expr,
+    },
+    Keyed {
+        key: Expr,
+        value: Expr,
+        line: usize,
+    },
+}
+
+#[derive(Clone, Copy, Debug, PartialEq, Eq)]
+pub enum UnaryOp {
+    Not,
+    Length,
+    Minus,
+}
+
+#[derive(Clone, Copy, Debug, PartialEq, Eq)]
+pub enum BinaryOp {
+    Or,
+    And,
+    Less,
+    Greater,
+    LessEqual,
+    GreaterEqual,
+    NotEqual,
+    Equal,
+    Join,
+    Plus,
+    Minus,
+    Times,
+    Over,
+    Mod,
+}

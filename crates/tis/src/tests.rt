@@ -1,0 +1,44 @@
+use crate::pages::{HELP, VERSION, page_of, print};
+use std::alloc::Global;
+use std::test::Fail;
+use tis_base::{MemSink, NoMemory, Value, Values};
+use tis_cli::Status;
+
+// The page for these words.
+fn page(alloc: Global, words: &[&str]) -> Result<Option<&'static str>, NoMemory> {
+    let mut owned = Vec::new(alloc);
+    for word in words {
+        owned.push(String::from_str(alloc, word)?)?;
+    }
+    Ok(page_of(&owned))
+}
+
+#[test]
+fn help_and_version_are_known_before_any_command(rt: HostRuntime) -> Result<(), Fail> {
+    for (words, want) in [
+        (["--help"].as_slice(), Some(HELP)),
+        (["--version"].as_slice(), Some(VERSION)),
+        (["compile", "--help"].as_slice(), Some(HELP)),
+        ([].as_slice(), None),
+        (["help"].as_slice(), None),
+        (["compile"].as_slice(), None),
+        (["compile", "--version"].as_slice(), None),
+        (["--help", "compile"].as_slice(), None),
+        (["--help", "--help"].as_slice(), None),
+        (["compile", "--help", "save"].as_slice(), None),
+    ] {
+        assert!(rt; page(rt.alloc(), words)? == want);
+    }
+    Ok(())
+}
+
+#[test]
+fn a_page_that_is_not_printed_ends_as_a_fault_of_the_sink(rt: HostRuntime) -> Result<(), Fail> {
+    let mut calls = Values::new(rt.alloc());
+    calls.push(Value::clamp(1))?;
+    let mut out = MemSink::failing(rt.alloc(), calls);
+    assert_eq!(rt; print(VERSION, &mut out), Status::Done);
+    assert_eq!(rt; print(VERSION, &mut out), Status::SinkFault);
+    assert_eq!(rt; out.written(), b"tis 0.1.0\n".as_slice());
+    Ok(())
+}

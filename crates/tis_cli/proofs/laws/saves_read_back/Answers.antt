@@ -1,5 +1,0 @@
-use Rattle.tis_cli.proofs.SavesReadBack.{saves_read_back}
-use Rattle.tis_cli.proofs.laws.saves_read_back.Goals as goal
-
-pub returns : goal.returns
-returns c = saves_read_back

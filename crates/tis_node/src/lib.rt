@@ -1,0 +1,28 @@
+//! One compute node of the TIS-100, step by step.
+//!
+//! The layer above uses one promise: each call of [`Node`] is its entry in the table of a node that
+//! `tis_asm` defines (`specs/Node.antt`), for every program and every state of a node of it. A node can
+//! do a local step, take a value from a port that it wants one from, or give the value that it offers to
+//! a port; the calls that ask come in front of the calls that do.
+//!
+//! ```text
+//! let program = assemble(alloc, b"MOV UP, DOWN")?;
+//! let mut node = Node::fresh();
+//! if node.wants(&program, Dir::Up) {
+//!     node.take(&program, Dir::Up, Value::clamp(5));
+//! }
+//! assert_eq!(node.offers(Dir::Down), Some(Value::clamp(5)));
+//! ```
+//!
+//! Each call asks that the program is sound (each jump goes to one of its instructions) and that the node
+//! is one of the program (`fits` is the test); each that changes the node keeps it one. No call takes
+//! memory or refuses anything. Each takes a time that doesn't grow with the program: it looks at the one
+//! instruction at `pc`.
+#![tactic(auto)]
+
+mod node;
+
+pub use node::{Mode, Node, Toward};
+
+#[cfg(test)]
+mod tests;

@@ -1,0 +1,4 @@
+pub mod Blocks
+pub mod SaveLines
+pub mod SavesReadBack
+pub mod Examples
