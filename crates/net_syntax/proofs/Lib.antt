@@ -6,4 +6,5 @@ mod Paths
 mod Reversed
 mod Limits
 mod Derived
+mod Plain
 mod Sound

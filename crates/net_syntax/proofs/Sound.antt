@@ -10,7 +10,7 @@ use Rattle.net_syntax.specs.Forms as forms
 use Rattle.net_syntax.specs.Forms.{LineForm, Line, lines_of}
 use Rattle.net_syntax.specs.Grammar.{line, IsBlock, IsStatement, Declaration, DeclaresInput, DeclaresOutput, DeclaresChannel, DeclaresProcess, IsDeclaration, AreDeclarations, IsNet, next_number, bare_net, with_declaration, with_declarations}
 use Rattle.net_syntax.specs.Reading.{BlockRole, FirstOf, SecondOf, WhileOf, CountOf, OpenProcess, Configuration, after_line, after_lines, and_then, still_open, with_open_block, net_at_end, after_all, after_version, tiles_of_line, head_of_line, net_with, net_of}
-use Rattle.net_syntax.specs.Laws.{IsPlain, IsPlainForm, ArePlain}
+use Rattle.net_syntax.proofs.Plain.{IsPlain, IsPlainForm, ArePlain, lines_are_plain}
 use Rattle.net_syntax.proofs.Derived.{during, between, holding, inside, joined-empty, joined-last}
 
 plain_is : (depth number : ℕ) (statement : Statement Name) → IsPlain statement → IsStatement depth number statement (line number (forms.Simple statement) ∷ [])
@@ -356,6 +356,6 @@ lines_are next (first ∷ second ∷ others) net plain ok =
     ap (λ (f : LineForm). line first.number f ∷ (line second.number second.form ∷ others)) head.0 ∙ ap (λ (f : LineForm). line first.number forms.Version ∷ (line second.number f ∷ others)) tiles.1 in
     (first.number, second.number, tiles.0, d.declarations, others, lines, d.are, d.makes)
 
-pub read_is_derived : (text : List ℕ) (net : Net) → ArePlain (lines_of text) → net_of text ≡ Ok net → IsNet (lines_of text) net
+pub read_is_derived : (text : List ℕ) (net : Net) → net_of text ≡ Ok net → IsNet (lines_of text) net
 unfolding net_of
-read_is_derived text net plain ok = lines_are (next_number text) (lines_of text) net plain (ends (after_all (next_number text) (lines_of text)) net ok)
+read_is_derived text net ok = lines_are (next_number text) (lines_of text) net (lines_are_plain text) (ends (after_all (next_number text) (lines_of text)) net ok)

@@ -7,8 +7,7 @@ pub fn networks_are_read()
     ensures { NetworksAreRead }
 {}
 
-/// The lines of a network that was read are that network by the grammar, where no line says a
-/// statement with blocks at once.
+/// The lines of a text that gives a network are that network by the grammar.
 pub fn read_networks_are_derived()
     ensures { ReadNetworksAreDerived }
 {}

@@ -5,7 +5,7 @@
 //! than that it may be answered. The grammar over the lines of a text stands apart from the reader
 //! in `specs/Grammar.antt`: which lines are a block, which are a network, and what the first line is
 //! with which no network goes on. `networks_are_read` is the law that each network of the grammar is
-//! the one that is read.
+//! the one that is read, and `read_networks_are_derived` that no other is.
 //!
 //! ```text
 //! let net = read_net(alloc, b"net 1\ntiles CCCC CCCC CCCC\nprocess p\nmove a o\nend\n")?;
