@@ -50,9 +50,12 @@ open_on symbol stack kind body is ending behind = λ parts.
 -- what begins with an operand begins with `nil`
 nil_on : (symbol : Symbol) (stack body : List Symbol) → ((opened : ℕ) → row symbol opened k.Nil 1 ≡ Begins body) → Completes (s.Make a.Nil ∷ (body ++ stack)) → Completes (symbol ∷ stack)
 nil_on symbol stack body is behind = λ parts.
-    let next = behind parts in
-    (a_token k.Nil, next.0 ∷ next.1, (λ least line. refl, λ opened line. refl, λ opened line. refl),
-     begins symbol stack body (s.Make a.Nil ∷ []) parts (a_token k.Nil) (next.0 ∷ next.1) (is parts.opened) refl next.3)
+    let next = behind parts in (
+      a_token k.Nil,
+      next.0 ∷ next.1,
+      (λ least line. refl, λ opened line. refl, λ opened line. refl),
+      begins symbol stack body (s.Make a.Nil ∷ []) parts (a_token k.Nil) (next.0 ∷ next.1) (is parts.opened) refl next.3,
+    )
 
 make_on : (action : Action) (stack : List Symbol) → Completes stack → Completes (s.Make action ∷ stack)
 unfolding row
