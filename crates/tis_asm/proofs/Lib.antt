@@ -7,4 +7,9 @@ pub mod Numbers
 pub mod CodeLines
 pub mod ReadingBack
 pub mod Soundness
+pub mod Cutting
+pub mod Digits
+pub mod Sources
+pub mod Steps
+pub mod Wholes
 pub mod Examples

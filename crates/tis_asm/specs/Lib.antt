@@ -8,3 +8,5 @@ pub mod Passing
 pub mod Counting
 pub mod ReadingBack
 pub mod Soundness
+pub mod Held
+pub mod LineView

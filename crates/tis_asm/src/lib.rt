@@ -1,12 +1,51 @@
-//! Programs of the compute nodes: their instructions, and their text.
+//! Programs of the compute nodes: their instructions, and their text, read and written.
+//!
+//! # What it is for
+//!
+//! - [`Instr`] is an instruction, with its [`Source`], [`Dest`] or [`Jump`]; [`Program`] holds at most fifteen of
+//!   them, each with a mark or without one, and [`Programs`] one program for each tile.
+//! - [`assemble`] reads the program that a text spells, as players write it: letters of either case, comments,
+//!   labels on lines of their own, CRs. [`print`] writes the canonical text of a program.
+//!
+//! # What the crates above use
+//!
+//! `assemble` gives exactly the program that its text spells, or refuses it for the cause that comes first:
+//! too many lines, then the first wrong line, then the first jump without its label. What it gives is sound:
+//! each of its jumps goes to one of its instructions. The canonical text of a sound program is read as that
+//! program ([`programs_read_back`]), and so are its lines before blank ones ([`lines_read_back`]).
+//!
+//! # An example
+//!
+//! ```text
+//! let program = assemble(alloc, b"loop: mov up acc # x\nadd 1\nmov acc, down\njmp LOOP\n")?;
+//! print(alloc, &program)?;              // L0: MOV UP, ACC ... JMP L0
+//! ```
+//!
+//! # What the calls cost
+//!
+//! `assemble` looks at the bytes of a text twice, to find its last line and to read the first fifteen, of which
+//! it takes a copy in capitals. Labels are looked for among at most fifteen lines of at most 80 bytes, which are
+//! read again each time. `print` takes time that grows with the program. Calls of `Program` take no memory.
+//!
+//! # What it doesn't do
+//!
+//! It runs no program, and doesn't read saves. A mark says nothing of what an instruction does.
 #![tactic(auto)]
 
+mod assembling;
+mod error;
 mod instr;
 mod laws;
+mod line;
 mod program;
 mod programs;
+mod source_line;
 mod text;
+mod word;
+mod words;
 
+pub use assembling::assemble;
+pub use error::AsmError;
 pub use instr::{Dest, Instr, Jump, Source};
 pub use laws::{
     assembled_are_whole, empty_programs_rest, lines_read_back, moves_pass_values, nodes_fit,

@@ -1,4 +1,4 @@
-use crate::{Dest, Instr, Jump, Program, Programs, Source, print};
+use crate::{AsmError, Dest, Instr, Jump, Program, Programs, Source, assemble, print};
 use std::alloc::Global;
 use std::test::Fail;
 use tis_base::{Dir, Shape, Tile, TileKind, Tiles, Value};
@@ -98,5 +98,45 @@ fn each_tile_has_its_own_program(rt: HostRuntime) -> Result<(), Fail> {
         assert_eq!(rt; programs.of(Tile { number }).len(), want, "at {number}");
     }
     assert_eq!(rt; programs.tiles(), tiles);
+    Ok(())
+}
+
+// The canonical text of the program that a text spells.
+#[test]
+fn a_text_is_read_as_its_program(rt: HostRuntime) -> Result<(), Fail> {
+    for (text, want) in [
+        (b"".as_slice(), b"".as_slice()),
+        (b"JMP B\nB:\n".as_slice(), b"L0: JMP L0\n".as_slice()),
+        (
+            b"a:\r\n! mov 1000,acc # x\n\njro -7\n".as_slice(),
+            b"!MOV 999, ACC\nJRO -7\n".as_slice(),
+        ),
+    ] {
+        let program = match assemble(rt.alloc(), text) {
+            Ok(program) => program,
+            Err(_) => return Err("refused".into()),
+        };
+        assert_eq!(rt; print(rt.alloc(), &program)?.as_slice(), want);
+    }
+    Ok(())
+}
+
+#[test]
+fn a_text_is_refused_by_its_first_fault(rt: HostRuntime) -> Result<(), Fail> {
+    let sixteen = b"\n\n\n\n\n\n\n\n\n\n\n\n\n\n\nNOP";
+    for (text, want) in [
+        (sixteen.as_slice(), AsmError::TooManyLines),
+        (b"MOV 5 6".as_slice(), AsmError::BadLine { line: 1 }),
+        (
+            b"A:\nA: NOP\n".as_slice(),
+            AsmError::RepeatedLabel { line: 2 },
+        ),
+        (
+            b"\nNOP\nJMP B\n".as_slice(),
+            AsmError::UnknownLabel { line: 3 },
+        ),
+    ] {
+        assert!(rt; matches!(assemble(rt.alloc(), text), Err(error) if error == want));
+    }
     Ok(())
 }
