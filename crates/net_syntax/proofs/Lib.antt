@@ -7,4 +7,5 @@ mod Reversed
 mod Limits
 mod Derived
 mod Plain
+mod Writing
 mod Sound

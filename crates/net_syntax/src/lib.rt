@@ -36,6 +36,7 @@ mod reader;
 mod tree;
 mod unread;
 mod words;
+mod write;
 
 pub use error::NetError;
 pub use laws::{networks_are_read, read_networks_are_derived};
@@ -43,6 +44,7 @@ pub use name::Name;
 pub use path::Path;
 pub use read::read_net;
 pub use tree::{Block, ChannelLine, Net, PortLine, ProcessText, Statement, Test, Var};
+pub use write::write_net;
 
 #[cfg(test)]
 mod tests;
