@@ -18,7 +18,7 @@
 //! bytes, a block is its statements one after the other, and a line is a number.
 //!
 //! A text is read in one pass. Time and memory grow with its length and not faster, and at most
-//! sixteen open statements are kept.
+//! sixteen open statements are kept. `write_net` gives the canonical text: `net_text` of the network.
 //!
 //! It doesn't say whether a network can run: which names there are, who reads and who writes them.
 #![tactic(auto)]
@@ -28,11 +28,14 @@ mod form;
 mod keyword;
 mod laws;
 mod lines;
+mod links;
 mod name;
 mod numeral;
+mod operands;
 mod path;
 mod read;
 mod reader;
+mod rows;
 mod tree;
 mod unread;
 mod words;
