@@ -9,3 +9,4 @@ mod Derived
 mod Plain
 mod Writing
 mod Sound
+mod Refused

@@ -10,7 +10,10 @@ use crate::keyword::{Keyword, keyword_of};
 use crate::links::{channel_of, port_of, process_of};
 use crate::name::Name;
 use crate::numeral::value_of;
-use crate::operands::{end, name_and_var, next_name, next_text, one_var, test_against_zero, two_names, two_vars, var_and_number, var_of};
+use crate::operands::{
+    end, name_and_var, next_name, next_text, one_var, test_against_zero, two_names, two_vars,
+    var_and_number, var_of,
+};
 use crate::path::Path;
 use crate::rows::tiles_of;
 use crate::tree::{Statement, Test, Var};

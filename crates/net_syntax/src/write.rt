@@ -38,12 +38,7 @@ fn push_two(out: &mut Vec<u8>, first: &[u8], second: &[u8]) -> Result<(), NoMemo
 }
 
 // Writes a line of three words behind what is there.
-fn push_three(
-    out: &mut Vec<u8>,
-    first: &[u8],
-    second: &[u8],
-    third: &[u8],
-) -> Result<(), NoMemory>
+fn push_three(out: &mut Vec<u8>, first: &[u8], second: &[u8], third: &[u8]) -> Result<(), NoMemory>
     ensures { OnOk result (out.new.items ≡ out.old.items ++ line_text (first.now ∷ second.now ∷ third.now ∷ [])) }
 {
     push_word(out, first)?;
