@@ -9,4 +9,5 @@ mod Derived
 mod Plain
 mod Writing
 mod Sound
+mod Open
 mod Refused

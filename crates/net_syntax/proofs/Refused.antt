@@ -12,6 +12,7 @@ use Rattle.net_syntax.proofs.Plain.{ArePlain, lines_are_plain}
 use Rattle.net_syntax.proofs.Limits.{stops_here}
 use Rattle.net_syntax.proofs.Derived.{during, between, net_is}
 use Rattle.net_syntax.proofs.Sound.{lines_are}
+use Rattle.net_syntax.proofs.Open.{IsStanding, lines_stand, is_unclosed}
 
 -- ---- results
 
@@ -201,14 +202,16 @@ blamed_whole next lines one two e is = subst (IsBlamed next lines) (same_refusal
 -- the lines behind the first two
 tail_blamed : (next number second : ℕ) (tiles : Tiles) (others : List Line) (refusal : NetRefusal) → ArePlain others → (read : Result Configuration NetRefusal) → after_lines (between (bare_net tiles)) others ≡ read → and_then read (λ sofar. net_at_end sofar.net sofar.open_process) ≡ Err refusal → IsBlamed next (line number forms.Version ∷ (line second (forms.TilesLine tiles) ∷ others)) refusal
 unfolding and_then
-tail_blamed next number second tiles others refusal plain (Ok sofar) is e = by sofar.open_process e
+tail_blamed next number second tiles others refusal plain (Ok sofar) is e = by sofar.open_process (lines_stand others (between (bare_net tiles)) sofar (line number forms.Version ∷ (line second (forms.TilesLine tiles) ∷ [])) plain tt is) e
   where
     goes : GoesOn (line number forms.Version ∷ (line second (forms.TilesLine tiles) ∷ others))
     goes = goes_from next (line number forms.Version ∷ (line second (forms.TilesLine tiles) ∷ others)) sofar (tt, (tt, plain)) (λ more. behind_read (between (bare_net tiles)) sofar others more is)
 
-    by : (open_process : Option OpenProcess) → net_at_end sofar.net open_process ≡ Err refusal → IsBlamed next (line number forms.Version ∷ (line second (forms.TilesLine tiles) ∷ others)) refusal
-    by None ok = absurd (refused_not _ refusal ok)
-    by (Some opened) err = blamed_whole next (line number forms.Version ∷ (line second (forms.TilesLine tiles) ∷ others)) (Unclosed (innermost_line opened opened.around)) refusal err (inr (goes, tt))
+    by : (open_process : Option OpenProcess) → IsStanding open_process (line number forms.Version ∷ (line second (forms.TilesLine tiles) ∷ others)) → net_at_end sofar.net open_process ≡ Err refusal → IsBlamed next (line number forms.Version ∷ (line second (forms.TilesLine tiles) ∷ others)) refusal
+    by None stands ok = absurd (refused_not _ refusal ok)
+    by (Some opened) stands err =
+        blamed_whole next (line number forms.Version ∷ (line second (forms.TilesLine tiles) ∷ others)) (Unclosed (innermost_line opened opened.around)) refusal err
+        (inr (goes, is_unclosed opened opened.around stands.0 (line number forms.Version ∷ (line second (forms.TilesLine tiles) ∷ others)) stands.2))
 tail_blamed next number second tiles others refusal plain (Err r) is e =
     let start = between (bare_net tiles) in
     let s = stops_in others start r is in

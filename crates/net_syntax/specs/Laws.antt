@@ -3,7 +3,7 @@ use Rattle.std.specs.Prelude.{◌≡◌, ℕ, ◌≤◌, ◌⊎◌, List, length
 use Rattle.net_syntax.specs.Tree.{Net, NetRefusal, BadLine, TooDeep, StrayEnd, Unclosed}
 use Rattle.net_syntax.specs.Forms as forms
 use Rattle.net_syntax.specs.Forms.{LineForm, Line, lines_of}
-use Rattle.net_syntax.specs.Grammar.{IsNet, GoesOn, IsFirstWrong, IsCloser, next_number}
+use Rattle.net_syntax.specs.Grammar.{IsNet, GoesOn, IsFirstWrong, IsCloser, IsUnclosed, next_number}
 use Rattle.net_syntax.specs.Reading.{net_of}
 
 -- the network that the lines of a text are is the one that the text gives
@@ -28,10 +28,10 @@ IsBlamedOn (TooDeep number) wrong = (number ≡ wrong.number) × IsBlockLine wro
 IsBlamedOn (BadLine number) wrong = (number ≡ wrong.number) × (¬ IsCloser wrong.form)
 IsBlamedOn (Unclosed number) wrong = ⊥
 
--- what is missing is blamed: the first or the second line, by the number of the next one, or the end of what is open
+-- what is missing is blamed: the first or the second line, by the number of the next one, or the end of what is open innermost, by the line that opens it
 abbrev pub IsMissing : ℕ → List Line → NetRefusal → Type 0
 IsMissing next lines (BadLine number) = (length lines ≤ 1) × (number ≡ next)
-IsMissing next lines (Unclosed number) = Unit {0}
+IsMissing next lines (Unclosed number) = IsUnclosed lines number
 IsMissing next lines refusal = ⊥
 
 -- the first line with which no network goes on is blamed, or, where some network goes on with all lines, what is missing
