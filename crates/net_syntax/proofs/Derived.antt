@@ -151,7 +151,7 @@ declarations_are (declaration ∷ declarations) lines is net =
     ap (after_lines (between net)) is.2 ∙ declaration_is declaration is.0 is.3 net is.1 ∙ declarations_are declarations is.1 is.4 (with_declaration net declaration)
 
 -- the lines of a network are read as that network
-net_is : (next : ℕ) (lines : List Line) (net : Net) → IsNet lines net → answer_of next lines ≡ Ok net
+pub net_is : (next : ℕ) (lines : List Line) (net : Net) → IsNet lines net → answer_of next lines ≡ Ok net
 unfolding and_then
 net_is next lines net is =
     let first = is.0 in

@@ -7,4 +7,7 @@ mod Reversed
 mod Limits
 mod Derived
 mod Plain
+mod Writing
 mod Sound
+mod Open
+mod Refused

@@ -13,7 +13,7 @@ use Rattle.net_syntax.specs.Reading.{BlockRole, FirstOf, SecondOf, WhileOf, Coun
 use Rattle.net_syntax.proofs.Plain.{IsPlain, IsPlainForm, ArePlain, lines_are_plain}
 use Rattle.net_syntax.proofs.Derived.{during, between, holding, inside, joined-empty, joined-last}
 
-plain_is : (depth number : ℕ) (statement : Statement Name) → IsPlain statement → IsStatement depth number statement (line number (forms.Simple statement) ∷ [])
+pub plain_is : (depth number : ℕ) (statement : Statement Name) → IsPlain statement → IsStatement depth number statement (line number (forms.Simple statement) ∷ [])
 plain_is depth number (Get read var) plain = refl
 plain_is depth number (GetAdd read var) plain = refl
 plain_is depth number (GetSub read var) plain = refl

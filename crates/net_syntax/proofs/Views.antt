@@ -1,14 +1,17 @@
 -- The tree of a network as it is held, and as it is seen.
-use Rattle.std.proofs.Common.{◌≡◌, ℕ, zero, suc, ◌<◌, List, [], ◌∷◌, ◌++◌, map, length, get_or, refl, sym, ap, ◌∙◌, arith, Some}
+use Rattle.std.proofs.Common.{◌≡◌, ℕ, zero, suc, ◌+◌, ◌<◌, ◌≤◌, take, List, [], ◌∷◌, ◌++◌, map, length, get_or, refl, sym, ap, ◌∙◌, arith, Some}
 use Rattle.std.specs.Prelude.{slice_get}
-use Rattle.std.proofs.lemmas.List.{map-append, length-map}
+use Rattle.std.proofs.lemmas.List.{map-append, length-map, map_more, take_all}
 use Rattle.net_syntax.specs.declared.tree.Statement as held
+use Rattle.net_syntax.specs.declared.tree.Statement.TheVariants as held_as
+use Rattle.net_syntax.specs.declared.tree.Var.{Var}
+use Rattle.net_syntax.specs.declared.tree.Test.{Test}
 use Rattle.net_syntax.specs.declared.tree.Statement.TheFolds as folds
 use Rattle.net_syntax.specs.declared.tree.Statement.TheOpen as level
 use Rattle.net_syntax.specs.declared.tree.Statement.TheViews.{roll-Block, roll-Numbered}
 use Rattle.net_syntax.specs.declared.tree.Block as held_block
 use Rattle.net_syntax.specs.declared.tree.Numbered as held_numbered
-use Rattle.net_syntax.specs.Tree.{Name, Statement, Block, Then, with_last, statements_of}
+use Rattle.net_syntax.specs.Tree.{Name, Statement, If, Block, Then, with_last, statements_of}
 use Rattle.net_syntax.specs.View.{Numbered, block_with, statement_level, block_level, numbered_level, statement_view, block_view}
 
 -- a statement with its line as it is held
@@ -69,3 +72,22 @@ block_at block items index default is within =
 
 pub block_within : (block : held_block.Block) (items : List held_numbered.Numbered) (index : ℕ) → items ≡ (held_block.out-Block block).statements → index < length (statements_of (block_view block)) → index < length items
 block_within block items index is within = let a = block_length block in let b = ap length is in omega (arith, a, b)
+
+-- ---- statements one after the other, as a loop meets them
+
+-- one more of the statements was added
+pub block_grown : (items : List held_numbered.Numbered) (index : ℕ) (item : held_numbered.Numbered) (copy more : Block Name) → index < length items → item ≡ get_or items index item → copy ≡ block_with (map numbered_view (take index items)) → more ≡ with_last copy item.line (statement_view item.statement) → more ≡ block_with (map numbered_view (take (index + 1) items))
+block_grown items index item copy more within item_is copy_is more_is =
+    more_is ∙ ap (λ (b : Block Name). with_last b item.line (statement_view item.statement)) copy_is
+    ∙ sym (block_with-with_last (map numbered_view (take index items)) item.line (statement_view item.statement))
+    ∙ ap (λ (n : Numbered). block_with (map numbered_view (take index items) ++ n ∷ [])) (sym (numbered_seen item) ∙ ap numbered_view item_is)
+    ∙ ap block_with (sym (map_more numbered_view items index item within))
+
+-- all of them were added
+pub block_whole : (block : held_block.Block) (items : List held_numbered.Numbered) (index : ℕ) (copy : Block Name) → items ≡ (held_block.out-Block block).statements → length items ≤ index → copy ≡ block_with (map numbered_view (take index items)) → copy ≡ block_view block
+block_whole block items index copy is past copy_is =
+    copy_is ∙ ap (λ (l : List held_numbered.Numbered). block_with (map numbered_view l)) (take_all index items past ∙ is) ∙ sym (block_seen block)
+
+-- an `if` as it is seen
+pub if_seen : (var : Var) (test : Test) (first second : held_block.Block) → statement_view (held_as.If var test first second) ≡ If var test (block_view first) (block_view second)
+if_seen var test first second = ap statement_view (sym (held_as.rolls-If var test first second)) ∙ folds.fold-roll-Statement (Statement Name) (Block Name) Numbered statement_level block_level numbered_level (level.If var test first second)

@@ -3,7 +3,7 @@ use Rattle.net_syntax.specs.declared.form.LineForm as held
 use Rattle.net_syntax.specs.declared.form.LineForm.TheVariants as held_as
 use Rattle.std.specs.Prelude.{List, [], ◌∷◌}
 use Rattle.tis_base.specs.declared.tiles.TileKind.{TileKind}
-use Rattle.net_syntax.specs.declared.form.Row.{Row}
+use Rattle.net_syntax.specs.declared.rows.Row.{Row}
 use Rattle.net_syntax.specs.Forms.{LineForm, Version, TilesLine, Input, Output, Channel, Process, Simple, OpensIf, OpensWhile, OpensCount, Else, End, Malformed}
 use Rattle.net_syntax.specs.View.{statement_view}
 

@@ -119,6 +119,18 @@ net_lines net =
     version_line net.version ∷ tiles_line net.tiles
     ∷ (map (port_line (codes "input")) net.inputs ++ map (port_line (codes "output")) net.outputs ++ map channel_line net.channels ++ flat_map process_lines net.processes)
 
+-- words behind a word, each with a blank before it
+abbrev pub words_behind : Words → List ℕ
+words_behind words = flat_map (λ word. 32 ∷ word) words
+
+-- a line of words, ended by LF
+abbrev pub line_text : Words → List ℕ
+line_text words = join_with_byte 32 words ++ 10 ∷ []
+
+-- lines of words, each ended by LF
+abbrev pub lines_text : List Words → List ℕ
+lines_text lines = text_of_lines (map (join_with_byte 32) lines)
+
 -- the canonical text
 abbrev pub net_text : Net → List ℕ
-net_text net = text_of_lines (map (join_with_byte 32) (net_lines net))
+net_text net = lines_text (net_lines net)

@@ -5,7 +5,8 @@
 //! than that it may be answered. The grammar over the lines of a text stands apart from the reader
 //! in `specs/Grammar.antt`: which lines are a block, which are a network, and what the first line is
 //! with which no network goes on. `networks_are_read` is the law that each network of the grammar is
-//! the one that is read, and `read_networks_are_derived` that no other is.
+//! the one that is read, and `read_networks_are_derived` that no other is. By
+//! `first_wrong_lines_are_refused` a refusal names the first line with which no network goes on.
 //!
 //! ```text
 //! let net = read_net(alloc, b"net 1\ntiles CCCC CCCC CCCC\nprocess p\nmove a o\nend\n")?;
@@ -18,7 +19,7 @@
 //! bytes, a block is its statements one after the other, and a line is a number.
 //!
 //! A text is read in one pass. Time and memory grow with its length and not faster, and at most
-//! sixteen open statements are kept.
+//! sixteen open statements are kept. `write_net` gives the canonical text: `net_text` of the network.
 //!
 //! It doesn't say whether a network can run: which names there are, who reads and who writes them.
 #![tactic(auto)]
@@ -28,21 +29,26 @@ mod form;
 mod keyword;
 mod laws;
 mod lines;
+mod links;
 mod name;
 mod numeral;
+mod operands;
 mod path;
 mod read;
 mod reader;
+mod rows;
 mod tree;
 mod unread;
 mod words;
+mod write;
 
 pub use error::NetError;
-pub use laws::{networks_are_read, read_networks_are_derived};
+pub use laws::{first_wrong_lines_are_refused, networks_are_read, read_networks_are_derived};
 pub use name::Name;
 pub use path::Path;
 pub use read::read_net;
 pub use tree::{Block, ChannelLine, Net, PortLine, ProcessText, Statement, Test, Var};
+pub use write::write_net;
 
 #[cfg(test)]
 mod tests;

@@ -56,4 +56,11 @@ impl Path {
     {
         self.tiles[index as usize]
     }
+
+    // The tiles, in order.
+    pub(crate) fn tiles(&self) -> &[u8]
+        ensures { result.now ≡ self.now }
+    {
+        self.tiles.as_slice()
+    }
 }

@@ -1,6 +1,7 @@
 //! The tree of a network.
 ghost use Rattle.std.specs.Prelude.{◌≡◌, ◌<◌, ◌≤◌, ◌↔◌, [], ◌∷◌, ◌++◌, length, slice_get, Some, IsTrue};
 ghost use Rattle.std.specs.Prelude.{OnOk, OnErr, option_map};
+ghost use Rattle.tis_base.specs.Answers.{Gives};
 ghost use Rattle.net_syntax.specs.Tree.{Empty, with_last, statements_of};
 ghost use Rattle.net_syntax.specs.View.{block_view, statement_view};
 
@@ -69,16 +70,16 @@ pub enum Statement {
 /// A statement and the number of its line.
 #[cycle(tree)]
 #[derive(Drop)]
-struct Numbered {
-    statement: Statement,
-    line: usize,
+pub(crate) struct Numbered {
+    pub(crate) statement: Statement,
+    pub(crate) line: usize,
 }
 
 /// Statements in order.
 #[cycle(tree)]
 #[derive(Drop)]
 pub struct Block {
-    statements: Items<Numbered>,
+    pub(crate) statements: Items<Numbered>,
 }
 
 /// An input or an output at a position, and the tiles that its link passes, where it is pinned.
@@ -158,5 +159,51 @@ impl Block {
         ensures { option_map (λ s. s.0) (slice_get (statements_of (block_view self.now)) index) ≡ Some result }
     {
         self.statements.as_slice()[index].line
+    }
+
+    /// The same block again: the same statements on the same lines.
+    #[cycle(copy)]
+    pub fn copy(&self, alloc: Global) -> Result<Block, NoMemory>
+        ensures { Gives block_view result (block_view self.now) }
+    {
+        let mut copy = Block::new(alloc);
+        'statements: for numbered in self.statements.as_slice() {
+            copy.push(numbered.statement.copy(alloc)?, numbered.line)?;
+        }
+        Ok(copy)
+    }
+}
+
+impl Statement {
+    // The same statement again.
+    #[cycle(copy)]
+    fn copy(&self, alloc: Global) -> Result<Statement, NoMemory>
+        ensures { Gives statement_view result (statement_view self.now) }
+    {
+        match self {
+            Statement::Get(name, var) => Ok(Statement::Get(name.copied(), *var)),
+            Statement::GetAdd(name, var) => Ok(Statement::GetAdd(name.copied(), *var)),
+            Statement::GetSub(name, var) => Ok(Statement::GetSub(name.copied(), *var)),
+            Statement::Put(name, var) => Ok(Statement::Put(name.copied(), *var)),
+            Statement::PutNumber(name, number) => Ok(Statement::PutNumber(name.copied(), *number)),
+            Statement::Move(read, written) => Ok(Statement::Move(read.copied(), written.copied())),
+            Statement::Set(var, number) => Ok(Statement::Set(*var, *number)),
+            Statement::Add(var, number) => Ok(Statement::Add(*var, *number)),
+            Statement::Sub(var, number) => Ok(Statement::Sub(*var, *number)),
+            Statement::Neg(var) => Ok(Statement::Neg(*var)),
+            Statement::Double(var) => Ok(Statement::Double(*var)),
+            Statement::Copy(to, from) => Ok(Statement::Copy(*to, *from)),
+            Statement::Swap => Ok(Statement::Swap),
+            Statement::If(var, test, first, second) => Ok(Statement::If(
+                *var,
+                *test,
+                first.copy(alloc)?,
+                second.copy(alloc)?,
+            )),
+            Statement::While(var, test, body) => {
+                Ok(Statement::While(*var, *test, body.copy(alloc)?))
+            }
+            Statement::Count(var, body) => Ok(Statement::Count(*var, body.copy(alloc)?)),
+        }
     }
 }

@@ -1,7 +1,7 @@
 use Rattle.std.proofs.Common.{◌≡◌, ◌∷◌, [], List, ℕ, ◌∙◌, sym, ap, length, length-append, arith, None}
 use Rattle.net_syntax.specs.Forms.{path_of}
 use Rattle.net_syntax.proofs.Paths.{path_begins, path_stops, path_more, path_full, path_ends, path_behind, room_gone, room_left}
-use Rattle.net_syntax.proofs.form.path_of.Goals as goal
+use Rattle.net_syntax.proofs.links.path_of.Goals as goal
 
 pub tiles-init : goal.tiles-init
 tiles-init c =
