@@ -1,5 +1,5 @@
 -- What each text gives, by the language of the table.
-use Rattle.std.proofs.Common.{◌≡◌, ℕ, Bool, true, false, List, [], ◌∷◌, ◌++◌, refl, ap, ◌∙◌, sym, subst, append_assoc}
+use Rattle.std.proofs.Common.{◌≡◌, ℕ, Bool, true, false, List, [], ◌∷◌, ◌++◌, refl, ap, sym, subst, append_assoc}
 use Rattle.std.specs.Prelude.{if◌then◌else◌, nat_lt, Result, Ok, Err}
 use Rattle.lua_syntax.specs.declared.tree.Item.{Item}
 use Rattle.lua_syntax.specs.declared.kind.Kind.{Kind}
@@ -16,7 +16,7 @@ use Rattle.lua_syntax.specs.Grammar.{row, operand_row, most_open}
 use Rattle.lua_syntax.specs.Building.{act, nothing_read}
 use Rattle.lua_syntax.specs.Tokens.{tokens, cut, last_line}
 use Rattle.lua_syntax.specs.Reading.{Reading, Step, Goes, Wrong, Deep, keeps_text, taken, opened, begun_by, by_row, step, by_step, run, tree_of}
-use Rattle.lua_syntax.specs.Language.{Derives, nothing, opens, begins_open, ends, with_one_more, IsChunk, GoesOnWith, IsAnswer}
+use Rattle.lua_syntax.specs.Language.{Derives, nothing, opens, begins_open, ends, with_one_more, IsChunk, IsAnswer}
 use Rattle.lua_syntax.proofs.Completing.{EndsInChunk, completed}
 use Rattle.lua_syntax.proofs.Stacking.{are_parts, leaves_parts, row_parts, operand_parts, ends_above, above_both, KeepsEnd, keeps_end, end_on, LeavesNothing, end_leaves_nothing}
 use Rattle.lua_syntax.proofs.Refusing.{Precedes, precedes, goes_wrong}
@@ -102,14 +102,17 @@ deep_by_step : (tokens : List Token) (reading : Reading) (token : Token) (line :
     by_step s (λ (next : Reading). run next tokens) token.line ≡ Err (TooDeep line) → DeepOn reading (token ∷ tokens) line
 deep_by_step tokens reading token line fine known (Goes next) led is =
     let from = known next (subst KeepsEnd led (keeps_end reading.stack token reading.parts fine)) is in
-    let all = from.2.before ++ from.0 ∷ from.2.more in
-    (from.0, from.1, record {
-      before = token ∷ from.2.before;
-      behind = from.2.behind;
-      more = from.2.more;
-      split = ap (λ (rest : List Token). token ∷ rest) from.2.split;
-      goes_on = subst (λ (s : Step). Precedes reading.stack reading.parts token all s) led (precedes reading.stack reading.parts token all) from.2.goes_on;
-    })
+    let all = from.2.before ++ from.0 ∷ from.2.more in (
+      from.0,
+      from.1,
+      record {
+        before = token ∷ from.2.before;
+        behind = from.2.behind;
+        more = from.2.more;
+        split = ap (λ (rest : List Token). token ∷ rest) from.2.split;
+        goes_on = subst (λ (s : Step). Precedes reading.stack reading.parts token all s) led (precedes reading.stack reading.parts token all) from.2.goes_on;
+      },
+    )
 deep_by_step tokens reading token line fine known Wrong led is = absurd (cc)
 deep_by_step tokens reading token line fine known Deep led is =
     let c = subst (λ (s : Step). DeepGoesOn reading.stack reading.parts token s) led (deep_goes_on reading.stack token reading.parts fine) in
@@ -162,23 +165,29 @@ unfolding tokens
 by_answer text (Ok items) is = read_is_derived (cut 0 0 text) start (last_line text) items refl is
 by_answer text (Err (Syntax line)) is =
     let from = goes_wrong (tokens text) start line refl is in
-    let wrong = from.2 in
-    (from.0, from.1, record {
-      before = wrong.before;
-      behind = wrong.behind;
-      split = wrong.split;
-      goes_on = (wrong.more, wrong.goes_on);
-      stops = λ more. wrong.stops more.0 (subst (λ (all : List Token). IsChunk all) (append_assoc wrong.before (from.0 ∷ []) more.0) more.1);
-    })
+    let wrong = from.2 in (
+      from.0,
+      from.1,
+      record {
+        before = wrong.before;
+        behind = wrong.behind;
+        split = wrong.split;
+        goes_on = (wrong.more, wrong.goes_on);
+        stops = λ more. wrong.stops more.0 (subst (λ (all : List Token). IsChunk all) (append_assoc wrong.before (from.0 ∷ []) more.0) more.1);
+      },
+    )
 by_answer text (Err (TooDeep line)) is =
     let from = goes_deep (tokens text) start line refl is in
-    let deep = from.2 in
-    (from.0, from.1, record {
-      before = deep.before;
-      behind = deep.behind;
-      split = deep.split;
-      goes_on = (deep.more, subst (λ (all : List Token). IsChunk all) (sym (append_assoc deep.before (from.0 ∷ []) deep.more)) deep.goes_on);
-    })
+    let deep = from.2 in (
+      from.0,
+      from.1,
+      record {
+        before = deep.before;
+        behind = deep.behind;
+        split = deep.split;
+        goes_on = (deep.more, subst (λ (all : List Token). IsChunk all) (sym (append_assoc deep.before (from.0 ∷ []) deep.more)) deep.goes_on);
+      },
+    )
 
 pub texts_answer : (text : List ℕ) → IsAnswer (tokens text) (tree_of text)
 unfolding tree_of

@@ -1,5 +1,5 @@
 -- Each stack that is reached can be completed: behind what was read something can come that makes it a chunk.
-use Rattle.std.proofs.Common.{◌≡◌, ℕ, Bool, true, false, List, [], ◌∷◌, ◌++◌, refl, ap, ◌∙◌, sym, subst}
+use Rattle.std.proofs.Common.{◌≡◌, ℕ, Bool, true, false, List, [], ◌∷◌, ◌++◌, refl, sym, subst}
 use Rattle.lua_syntax.specs.declared.kind.Kind.{Kind}
 use Rattle.lua_syntax.specs.declared.kind.Kind.TheVariants as k
 use Rattle.lua_syntax.specs.declared.kind.Role.TheVariants.{Plain}
@@ -9,8 +9,7 @@ use Rattle.lua_syntax.specs.declared.symbol.Action.{Action}
 use Rattle.lua_syntax.specs.declared.symbol.Action.TheVariants as a
 use Rattle.lua_syntax.specs.declared.symbol.Symbol.{Symbol}
 use Rattle.lua_syntax.specs.declared.symbol.Symbol.TheVariants as s
-use Rattle.lua_syntax.specs.declared.symbol.Row.{Row}
-use Rattle.lua_syntax.specs.declared.symbol.Row.TheVariants.{Takes, Opens, Begins, Passes, Refuses}
+use Rattle.lua_syntax.specs.declared.symbol.Row.TheVariants.{Takes, Opens, Begins, Passes}
 use Rattle.lua_syntax.specs.declared.building.Building.{Building}
 use Rattle.lua_syntax.specs.declared.piece.Token.{Token}
 use Rattle.lua_syntax.specs.Grammar.{row, operators_row, suffix_row, target_call_row, a_block, called, library_call}
@@ -50,9 +49,12 @@ open_on symbol stack kind body is ending behind = λ parts.
 -- what begins with an operand begins with `nil`
 nil_on : (symbol : Symbol) (stack body : List Symbol) → ((opened : ℕ) → row symbol opened k.Nil 1 ≡ Begins body) → Completes (s.Make a.Nil ∷ (body ++ stack)) → Completes (symbol ∷ stack)
 nil_on symbol stack body is behind = λ parts.
-    let next = behind parts in
-    (a_token k.Nil, next.0 ∷ next.1, (λ least line. refl, λ opened line. refl, λ opened line. refl),
-     begins symbol stack body (s.Make a.Nil ∷ []) parts (a_token k.Nil) (next.0 ∷ next.1) (is parts.opened) refl next.3)
+    let next = behind parts in (
+      a_token k.Nil,
+      next.0 ∷ next.1,
+      (λ least line. refl, λ opened line. refl, λ opened line. refl),
+      begins symbol stack body (s.Make a.Nil ∷ []) parts (a_token k.Nil) (next.0 ∷ next.1) (is parts.opened) refl next.3,
+    )
 
 make_on : (action : Action) (stack : List Symbol) → Completes stack → Completes (s.Make action ∷ stack)
 unfolding row
