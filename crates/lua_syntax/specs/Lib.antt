@@ -7,4 +7,5 @@ pub mod Reading
 pub mod Steps
 pub mod Defines
 pub mod Language
+pub mod Forms
 pub mod Plain

@@ -1,4 +1,5 @@
 //! Laws of the grammar.
+ghost use Rattle.lua_syntax.specs.Forms.{ReadTextsAreChunks};
 ghost use Rattle.lua_syntax.specs.Language.{TextsAnswer};
 
 /// A text that is read is a chunk. Where the syntax is refused, the line is that of the first token with which no
@@ -7,4 +8,9 @@ ghost use Rattle.lua_syntax.specs.Language.{TextsAnswer};
 /// chunk goes on with the token that is too deep, so that no token before it is wrong.
 pub fn texts_answer()
     ensures { TextsAnswer }
+{}
+
+/// The tree of a text that is read is the one that the grammar gives for its tokens, form by form.
+pub fn read_texts_are_chunks()
+    ensures { ReadTextsAreChunks }
 {}
