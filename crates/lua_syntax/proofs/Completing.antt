@@ -12,7 +12,7 @@ use Rattle.lua_syntax.specs.declared.symbol.Symbol.TheVariants as s
 use Rattle.lua_syntax.specs.declared.symbol.Row.TheVariants.{Takes, Opens, Begins, Passes}
 use Rattle.lua_syntax.specs.declared.building.Building.{Building}
 use Rattle.lua_syntax.specs.declared.piece.Token.{Token}
-use Rattle.lua_syntax.specs.Grammar.{row, operators_row, suffix_row, target_call_row, a_block, called, library_call}
+use Rattle.lua_syntax.specs.Table.{row, operators_row, suffix_row, target_call_row, a_block, called, library_call}
 use Rattle.lua_syntax.specs.Building.{act}
 use Rattle.lua_syntax.specs.Reading.{keeps_text}
 use Rattle.lua_syntax.specs.Language.{Derives, nothing, takes, opens, begins, ends, with_one_more}

@@ -9,7 +9,7 @@ use Rattle.lua_syntax.specs.declared.symbol.Row.TheVariants.{Takes, Opens, Begin
 use Rattle.lua_syntax.specs.declared.building.Building.{Building}
 use Rattle.lua_syntax.specs.declared.piece.Token.{Token}
 use Rattle.lua_syntax.specs.Refusal.{Syntax}
-use Rattle.lua_syntax.specs.Grammar.{row, operand_row, most_open}
+use Rattle.lua_syntax.specs.Table.{row, operand_row, most_open}
 use Rattle.lua_syntax.specs.Building.{act}
 use Rattle.lua_syntax.specs.Reading.{Reading, Step, Goes, Wrong, Deep, keeps_text, taken, opened, begun_by, by_row, step, by_step, run}
 use Rattle.lua_syntax.specs.Language.{Derives, takes, opens, begins, begins_open, ends, with_one_more}

@@ -9,12 +9,12 @@ use Rattle.lua_syntax.specs.declared.symbol.Row.{Row}
 use Rattle.lua_syntax.specs.declared.symbol.Row.TheVariants.{Takes, Opens, Begins, Passes, Refuses}
 use Rattle.lua_syntax.specs.declared.building.Building.{Building}
 use Rattle.lua_syntax.specs.declared.piece.Token.{Token}
-use Rattle.lua_syntax.specs.Grammar.{row, operand_row, most_open}
+use Rattle.lua_syntax.specs.Table.{row, operand_row, most_open}
 use Rattle.lua_syntax.specs.Building.{act, nothing_read}
 use Rattle.lua_syntax.specs.Tokens.{tokens, cut, last_line}
 use Rattle.lua_syntax.specs.Reading.{Reading, Step, Goes, Wrong, Deep, keeps_text, taken, opened, begun_by, by_row, step, by_step, run, tree_of}
-use Rattle.lua_syntax.specs.Language.{with_one_more}
-use Rattle.lua_syntax.specs.Forms.{AreItems, IsChunkOf}
+use Rattle.lua_syntax.specs.Language.{Derives, nothing, takes, opens, begins, begins_open, ends, with_one_more, IsChunk}
+use Rattle.lua_syntax.specs.Grammar.{AreItems, IsChunkOf}
 use Rattle.lua_syntax.proofs.Completing.{EndsInChunk}
 use Rattle.lua_syntax.proofs.Stacking.{KeepsEnd, keeps_end, end_on, LeavesNothing, end_leaves_nothing}
 use Rattle.lua_syntax.proofs.Meaning.{Means, BegunMeans, RowMeans, row_means}
@@ -93,3 +93,28 @@ chunk_read tokens items h =
 pub read_texts_are_chunks : (text : List ℕ) (items : List Item) → tree_of text ≡ Ok items → IsChunkOf (tokens text) items
 unfolding tree_of tokens
 read_texts_are_chunks text items is = chunk_read (tokens text) items (read_means (cut 0 0 text) (record { stack = s.Chunk ∷ []; parts = nothing_read }) (last_line text) items refl is)
+
+-- ---- what the table derives, however deep it nests
+
+derives_means : (stack : List Symbol) (b : Building) (tokens : List Token) → Derives stack b tokens → (items : List Item) × Means stack b tokens items
+derives_means _ _ _ (nothing b) = (b.items, (refl, refl))
+derives_means _ _ _ (takes symbol stack body b first tokens is d) =
+    let known = derives_means (body ++ stack) (keeps_text first.kind first.text b) tokens d in
+    (known.0, row_means symbol stack b first.kind first.line first.text tokens known.0 (subst (λ (r : Row). RowMeans r stack b first tokens known.0) (sym is) known.1))
+derives_means _ _ _ (opens symbol stack body b first tokens is d) =
+    let known = derives_means (body ++ stack) (keeps_text first.kind first.text (with_one_more b)) tokens d in
+    (known.0, row_means symbol stack b first.kind first.line first.text tokens known.0 (subst (λ (r : Row). RowMeans r stack b first tokens known.0) (sym is) known.1))
+derives_means _ _ _ (begins symbol stack behind body b first tokens is operand d) =
+    let known = derives_means (body ++ (behind ++ stack)) (keeps_text first.kind first.text b) tokens d in
+    let begun : BegunMeans (operand_row b.opened first.kind first.line) (behind ++ stack) b first tokens known.0 = subst (λ (r : Row). BegunMeans r (behind ++ stack) b first tokens known.0) (sym operand) known.1 in
+    (known.0, row_means symbol stack b first.kind first.line first.text tokens known.0 (subst (λ (r : Row). RowMeans r stack b first tokens known.0) (sym is) begun))
+derives_means _ _ _ (begins_open symbol stack behind body b first tokens is operand d) =
+    let known = derives_means (body ++ (behind ++ stack)) (keeps_text first.kind first.text (with_one_more b)) tokens d in
+    let begun : BegunMeans (operand_row b.opened first.kind first.line) (behind ++ stack) b first tokens known.0 = subst (λ (r : Row). BegunMeans r (behind ++ stack) b first tokens known.0) (sym operand) known.1 in
+    (known.0, row_means symbol stack b first.kind first.line first.text tokens known.0 (subst (λ (r : Row). RowMeans r stack b first tokens known.0) (sym is) begun))
+derives_means _ _ _ (ends symbol stack action b first tokens is d) =
+    let known = derives_means stack (act action b) (first ∷ tokens) d in
+    (known.0, row_means symbol stack b first.kind first.line first.text tokens known.0 (subst (λ (r : Row). RowMeans r stack b first tokens known.0) (sym is) known.1))
+
+pub derived_is_a_chunk : (tokens : List Token) → IsChunk tokens → (items : List Item) × IsChunkOf tokens items
+derived_is_a_chunk tokens derived = let known = derives_means (s.Chunk ∷ []) nothing_read tokens derived in (known.0, chunk_read tokens known.0 known.1)
