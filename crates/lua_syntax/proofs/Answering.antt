@@ -1,5 +1,5 @@
 -- What each text gives, by the language of the table.
-use Rattle.std.proofs.Common.{◌≡◌, ℕ, Bool, true, false, List, [], ◌∷◌, ◌++◌, refl, ap, ◌∙◌, sym, subst, append_assoc}
+use Rattle.std.proofs.Common.{◌≡◌, ℕ, Bool, true, false, List, [], ◌∷◌, ◌++◌, refl, ap, sym, subst, append_assoc}
 use Rattle.std.specs.Prelude.{if◌then◌else◌, nat_lt, Result, Ok, Err}
 use Rattle.lua_syntax.specs.declared.tree.Item.{Item}
 use Rattle.lua_syntax.specs.declared.kind.Kind.{Kind}
@@ -12,11 +12,11 @@ use Rattle.lua_syntax.specs.declared.symbol.Row.TheVariants.{Takes, Opens, Begin
 use Rattle.lua_syntax.specs.declared.building.Building.{Building}
 use Rattle.lua_syntax.specs.declared.piece.Token.{Token}
 use Rattle.lua_syntax.specs.Refusal.{LuaRefusal, Syntax, TooDeep}
-use Rattle.lua_syntax.specs.Grammar.{row, operand_row, most_open}
+use Rattle.lua_syntax.specs.Table.{row, operand_row, most_open}
 use Rattle.lua_syntax.specs.Building.{act, nothing_read}
 use Rattle.lua_syntax.specs.Tokens.{tokens, cut, last_line}
 use Rattle.lua_syntax.specs.Reading.{Reading, Step, Goes, Wrong, Deep, keeps_text, taken, opened, begun_by, by_row, step, by_step, run, tree_of}
-use Rattle.lua_syntax.specs.Language.{Derives, nothing, opens, begins_open, ends, with_one_more, IsChunk, GoesOnWith, IsAnswer}
+use Rattle.lua_syntax.specs.Language.{Derives, nothing, opens, begins_open, ends, with_one_more, IsChunk, IsAnswer}
 use Rattle.lua_syntax.proofs.Completing.{EndsInChunk, completed}
 use Rattle.lua_syntax.proofs.Stacking.{are_parts, leaves_parts, row_parts, operand_parts, ends_above, above_both, KeepsEnd, keeps_end, end_on, LeavesNothing, end_leaves_nothing}
 use Rattle.lua_syntax.proofs.Refusing.{Precedes, precedes, goes_wrong}

@@ -10,7 +10,7 @@ use Rattle.lua_syntax.specs.declared.tree.LuaStatement.TheVariants as statement
 use Rattle.lua_syntax.specs.declared.tree.LuaBlock.{roll-LuaBlock}
 use Rattle.lua_syntax.specs.declared.tree.Arm.{roll-Arm}
 use Rattle.lua_syntax.specs.Refusal.{Syntax}
-use Rattle.lua_syntax.specs.Grammar.{row}
+use Rattle.lua_syntax.specs.Table.{row}
 use Rattle.lua_syntax.specs.Building.{act, act_expression, act_list, act_statement, act_block, act_item}
 use Rattle.lua_syntax.specs.Tokens.{word_kind, numeral_kind, quoted, word_piece, numeral_piece, string_piece, comment_piece, sign_piece, piece, tokens}
 use Rattle.lua_syntax.specs.Reading.{step, run, tree_of}

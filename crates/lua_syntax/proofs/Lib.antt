@@ -9,3 +9,5 @@ pub mod Completing
 pub mod Stacking
 pub mod Refusing
 pub mod Answering
+pub mod Meaning
+pub mod Sound

@@ -16,8 +16,8 @@ use Rattle.lua_syntax.specs.declared.symbol.Row.{Row}
 use Rattle.lua_syntax.specs.declared.symbol.Row.TheVariants.{Takes, Opens, Begins, Passes, Refuses}
 use Rattle.lua_syntax.specs.declared.building.Building.{Building}
 use Rattle.lua_syntax.specs.declared.piece.Token.{Token}
-use Rattle.lua_syntax.specs.Grammar as grammar
-use Rattle.lua_syntax.specs.Grammar.{row, operand_row, level, most_open}
+use Rattle.lua_syntax.specs.Table as table
+use Rattle.lua_syntax.specs.Table.{row, operand_row, level, most_open}
 use Rattle.lua_syntax.specs.Building.{act}
 use Rattle.lua_syntax.specs.Language.{with_one_more}
 use Rattle.lua_syntax.specs.Reading.{Step, Goes, Wrong, Deep, taken, opened, begun_by, by_row, step}
@@ -37,14 +37,14 @@ leaves_parts _ = true
 
 -- ---- each row but that of the chunk
 
-library_call_parts : (role : Role) (line : ℕ) → leaves_parts (grammar.library_target_row role line) ≡ true
+library_call_parts : (role : Role) (line : ℕ) → leaves_parts (table.library_target_row role line) ≡ true
 library_call_parts Plain line = refl
 library_call_parts Math line = refl
 library_call_parts Table line = refl
 
-operators_parts : (least : ℕ) (op : Option BinaryOp) (line : ℕ) → leaves_parts (grammar.operators_with least op line) ≡ true
+operators_parts : (least : ℕ) (op : Option BinaryOp) (line : ℕ) → leaves_parts (table.operators_with least op line) ≡ true
 operators_parts least None line = refl
-operators_parts least (Some op) line = elim (nat_le least (level op)) as (λ (t : Bool). leaves_parts (if t then Opens (grammar.operation op line (s.Operators least ∷ [])) else Passes a.Nothing) ≡ true) [ true ↦ refl | false ↦ refl ]
+operators_parts least (Some op) line = elim (nat_le least (level op)) as (λ (t : Bool). leaves_parts (if t then Opens (table.operation op line (s.Operators least ∷ [])) else Passes a.Nothing) ≡ true) [ true ↦ refl | false ↦ refl ]
 
 mark_parts : (found : Bool) → leaves_parts (if found then Takes [] else Refuses) ≡ true
 mark_parts true = refl
@@ -54,20 +54,20 @@ return_parts : (begins : Bool) → leaves_parts (if begins then Begins (s.Operat
 return_parts true = refl
 return_parts false = refl
 
-break_parts : (opened : ℕ) (in_loop : Bool) → leaves_parts (grammar.break_row opened in_loop) ≡ true
+break_parts : (opened : ℕ) (in_loop : Bool) → leaves_parts (table.break_row opened in_loop) ≡ true
 break_parts opened true = refl
 break_parts opened false = refl
 
-after_name_parts : (role : Role) (name_line line : ℕ) → leaves_parts (grammar.after_name_row role name_line k.Dot line) ≡ true
+after_name_parts : (role : Role) (name_line line : ℕ) → leaves_parts (table.after_name_row role name_line k.Dot line) ≡ true
 after_name_parts Plain name_line line = refl
 after_name_parts Math name_line line = refl
 after_name_parts Table name_line line = refl
 
-entry_operation_parts : (op : Option BinaryOp) (line : ℕ) → leaves_parts (grammar.entry_operation op line) ≡ true
+entry_operation_parts : (op : Option BinaryOp) (line : ℕ) → leaves_parts (table.entry_operation op line) ≡ true
 entry_operation_parts None line = refl
 entry_operation_parts (Some op) line = refl
 
-entry_member_parts : (role : Role) (line : ℕ) → leaves_parts (grammar.entry_member role line) ≡ true
+entry_member_parts : (role : Role) (line : ℕ) → leaves_parts (table.entry_member role line) ≡ true
 entry_member_parts Plain line = refl
 entry_member_parts Math line = refl
 entry_member_parts Table line = refl
@@ -75,7 +75,7 @@ entry_member_parts Table line = refl
 pub row_parts : (symbol : Symbol) (opened : ℕ) (kind : Kind) (line : ℕ) → is_part symbol ≡ true → leaves_parts (row symbol opened kind line) ≡ true
 unfolding row
 row_parts s.Chunk opened kind line part = absurd (cc)
-row_parts (s.Token mark) opened kind line part = mark_parts (grammar.is_mark mark kind)
+row_parts (s.Token mark) opened kind line part = mark_parts (table.is_mark mark kind)
 row_parts s.Semicolon opened k.Semicolon line part = refl
 row_parts s.Semicolon opened _ line part = refl
 row_parts s.Parameters opened (k.Name role) line part = refl
@@ -88,7 +88,7 @@ row_parts (s.Block in_loop) opened k.Break line part = break_parts opened in_loo
 row_parts (s.Block in_loop) opened _ line part = refl
 row_parts s.LocalValue opened k.Nil line part = refl
 row_parts s.LocalValue opened _ line part = refl
-row_parts s.ReturnValue opened kind line part = return_parts (grammar.begins_expression kind)
+row_parts s.ReturnValue opened kind line part = return_parts (table.begins_expression kind)
 row_parts (s.ThenBlock in_loop) opened k.Nil line part = refl
 row_parts (s.ThenBlock in_loop) opened _ line part = refl
 row_parts (s.Arms in_loop) opened k.Nil line part = refl
@@ -109,7 +109,7 @@ row_parts s.TargetCall opened k.Nil line part = refl
 row_parts s.TargetCall opened _ line part = refl
 row_parts s.Expression opened kind line part = refl
 row_parts s.Operand opened kind line part = refl
-row_parts (s.Operators least) opened kind line part = operators_parts least (grammar.binary_of kind) line
+row_parts (s.Operators least) opened kind line part = operators_parts least (table.binary_of kind) line
 row_parts (s.AfterName role name_line) opened k.Dot line part = after_name_parts role name_line line
 row_parts (s.AfterName role name_line) opened _ line part = refl
 row_parts (s.LibraryName role dot_line) opened k.Nil line part = refl
@@ -220,7 +220,7 @@ takes_none (Takes body) = false
 takes_none (Opens body) = false
 takes_none _ = true
 
-no_mark : (mark : Mark) → takes_none (grammar.token_row mark k.EndOfText) ≡ true
+no_mark : (mark : Mark) → takes_none (table.token_row mark k.EndOfText) ≡ true
 no_mark m.Name = refl
 no_mark _ = refl
 

@@ -7,7 +7,7 @@ use Rattle.lua_syntax.specs.declared.symbol.Row.TheVariants.{Takes, Opens, Begin
 use Rattle.lua_syntax.specs.declared.building.Building.{Building}
 use Rattle.lua_syntax.specs.declared.piece.Token.{Token}
 use Rattle.lua_syntax.specs.Refusal.{Syntax, TooDeep}
-use Rattle.lua_syntax.specs.Grammar.{row}
+use Rattle.lua_syntax.specs.Table.{row}
 use Rattle.lua_syntax.specs.Building.{act}
 use Rattle.lua_syntax.specs.Reading.{Reading, Step, Goes, Wrong, Deep, taken, opened, begun, by_row, by_step, step, run}
 

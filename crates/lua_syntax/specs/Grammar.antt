@@ -1,372 +1,300 @@
--- The grammar, as the table of a parser that one token decides: a row is what becomes of a symbol (a terminal, a part of the
--- grammar, or something to make) before a token. It says what becomes of a symbol before a token: the token is taken and
--- symbols are left to come, or the symbol ends there, or the token can't come. A row that opens takes a token
--- that opens something. What is made of the parts stands between the symbols.
---
--- Open are: a block, from the word or the bracket before it to its end; a grouping and a constructor, up to the closing bracket;
--- an operator, a dot, the bracket of an index and of a call, up to the end of what stands around: the grouping, the index, the
--- item, the argument, the statement. There `Restore` sets the count back to what it was when that began.
-use Rattle.std.specs.Prelude.{ℕ, ◌+◌, min, Bool, true, false, if◌then◌else◌, nat_le, List, [], ◌∷◌, Option, Some, None}
+-- The grammar as a relation: which tokens are a form, the tree that it gives, and the tokens that stand behind it. A test of the
+-- token behind says how far a form goes. How many constructs are open isn't told here.
+use Rattle.std.specs.Prelude.{◌≡◌, ℕ, ℤ, Bool, true, false, ◌&&◌, ◌||◌, nat_le, List, [], ◌∷◌, Option, Some, None, Ok}
 use Rattle.lua_syntax.specs.declared.tree.UnaryOp.TheVariants as unary
 use Rattle.lua_syntax.specs.declared.tree.BinaryOp.{BinaryOp}
-use Rattle.lua_syntax.specs.declared.tree.BinaryOp.TheVariants as binary
+use Rattle.lua_syntax.specs.declared.tree.Item.{Item}
+use Rattle.lua_syntax.specs.declared.tree.Item.TheVariants as item
+use Rattle.lua_syntax.specs.declared.tree.Expr.{Expr}
+use Rattle.lua_syntax.specs.declared.tree.Expr.TheVariants as e
+use Rattle.lua_syntax.specs.declared.tree.Entry.{Entry}
+use Rattle.lua_syntax.specs.declared.tree.Entry.TheVariants as entry
+use Rattle.lua_syntax.specs.declared.tree.LuaStatement.{LuaStatement}
+use Rattle.lua_syntax.specs.declared.tree.LuaStatement.TheVariants as statement
+use Rattle.lua_syntax.specs.declared.tree.LuaBlock.{LuaBlock, roll-LuaBlock}
+use Rattle.lua_syntax.specs.declared.tree.Arm.{Arm, roll-Arm}
 use Rattle.lua_syntax.specs.declared.kind.Role.{Role}
 use Rattle.lua_syntax.specs.declared.kind.Role.TheVariants.{Plain, Math, Table}
 use Rattle.lua_syntax.specs.declared.kind.Kind.{Kind}
 use Rattle.lua_syntax.specs.declared.kind.Kind.TheVariants as k
-use Rattle.lua_syntax.specs.declared.symbol.Mark.{Mark}
-use Rattle.lua_syntax.specs.declared.symbol.Mark.TheVariants as m
-use Rattle.lua_syntax.specs.declared.symbol.Action.{Action}
-use Rattle.lua_syntax.specs.declared.symbol.Action.TheVariants as a
-use Rattle.lua_syntax.specs.declared.symbol.Symbol.{Symbol}
-use Rattle.lua_syntax.specs.declared.symbol.Symbol.TheVariants as s
-use Rattle.lua_syntax.specs.declared.symbol.Row.{Row}
-use Rattle.lua_syntax.specs.declared.symbol.Row.TheVariants.{Takes, Opens, Begins, Passes, Refuses}
+use Rattle.lua_syntax.specs.declared.piece.Token.{Token}
+use Rattle.lua_syntax.specs.Tokens.{tokens}
+use Rattle.lua_syntax.specs.Reading.{tree_of}
+use Rattle.lua_syntax.specs.Table.{level, right_level, binary_of, begins_expression, is_library}
 
--- how many may be open at once
-abbrev pub most_open : ℕ
-most_open = 64
+-- a token
+abbrev pub token : Kind → ℕ → List ℕ → Token
+token kind line text = record { kind = kind; line = line; text = text }
 
--- how many are open with one more; past the most that may be open all counts are one
-abbrev pub inside : ℕ → ℕ
-inside opened = min opened most_open + 1
+-- a token of this kind stands first
+pub data Is : Kind → List Token → List Token → Type 0 where
+  is : {kind : Kind} {line : ℕ} {text : List ℕ} {rest : List Token} → Is kind (token kind line text ∷ rest) rest
 
--- ---- operators
+-- a name stands first
+pub data IsName : List Token → List ℕ → List Token → Type 0 where
+  name : {role : Role} {line : ℕ} {text : List ℕ} {rest : List Token} → IsName (token (k.Name role) line text ∷ rest) text rest
 
--- how tightly an operator binds
-abbrev pub level : BinaryOp → ℕ
-level binary.Or = 1
-level binary.And = 2
-level binary.Less = 3
-level binary.Greater = 3
-level binary.LessEqual = 3
-level binary.GreaterEqual = 3
-level binary.NotEqual = 3
-level binary.Equal = 3
-level binary.Join = 4
-level binary.Plus = 5
-level binary.Minus = 5
-level binary.Times = 6
-level binary.Over = 6
-level binary.Mod = 6
+-- the first token isn't such a one
+pub data Without : (Kind → Bool) → List Token → Type 0 where
+  without : {test : Kind → Bool} {first : Token} {rest : List Token} → test first.kind ≡ false → Without test (first ∷ rest)
 
--- how tightly an operator binds on its right side: all but `..` group to the left
-abbrev pub right_level : BinaryOp → ℕ
-right_level binary.Or = 2
-right_level binary.And = 3
-right_level binary.Less = 4
-right_level binary.Greater = 4
-right_level binary.LessEqual = 4
-right_level binary.GreaterEqual = 4
-right_level binary.NotEqual = 4
-right_level binary.Equal = 4
-right_level binary.Join = 4
-right_level binary.Plus = 6
-right_level binary.Minus = 6
-right_level binary.Times = 7
-right_level binary.Over = 7
-right_level binary.Mod = 7
+abbrev pub is_semicolon : Kind → Bool
+is_semicolon k.Semicolon = true
+is_semicolon _ = false
 
--- the binary operator that a token can be
-abbrev pub binary_of : Kind → Option BinaryOp
-binary_of (k.Operator op) = Some op
-binary_of k.Minus = Some binary.Minus
-binary_of _ = None
+abbrev pub is_assign : Kind → Bool
+is_assign k.Assign = true
+is_assign _ = false
 
--- ---- tokens that have to come
+abbrev pub is_paren : Kind → Bool
+is_paren k.LeftParen = true
+is_paren _ = false
 
--- whether a token is the one that has to come
-abbrev pub is_mark : Mark → Kind → Bool
-is_mark m.Name (k.Name role) = true
-is_mark m.Assign k.Assign = true
-is_mark m.Comma k.Comma = true
-is_mark m.End k.End = true
-is_mark m.Until k.Until = true
-is_mark m.LeftParen k.LeftParen = true
-is_mark m.RightParen k.RightParen = true
-is_mark m.RightBracket k.RightBracket = true
-is_mark _ _ = false
+abbrev pub is_dot : Kind → Bool
+is_dot k.Dot = true
+is_dot _ = false
 
-abbrev pub token_row : Mark → Kind → Row
-token_row mark kind = if is_mark mark kind then Takes [] else Refuses
+-- whether a member or an index begins with it
+abbrev pub is_suffix : Kind → Bool
+is_suffix k.Dot = true
+is_suffix k.LeftBracket = true
+is_suffix _ = false
 
-abbrev pub semicolon_row : Kind → Row
-semicolon_row k.Semicolon = Takes []
-semicolon_row _ = Passes a.Nothing
+-- whether a name goes on with it: a call, or a library's function or member
+abbrev pub calls : Role → Kind → Bool
+calls role kind = is_paren kind || (is_dot kind && is_library role)
 
--- ---- the chunk: `function NAME ( names ) block end` and `NAME = expression`
+abbrev pub op_binds : ℕ → Option BinaryOp → Bool
+op_binds least None = false
+op_binds least (Some op) = nat_le least (level op)
 
-abbrev pub chunk_row : ℕ → Kind → Row
-chunk_row opened k.Function = Takes (s.Token m.Name ∷ s.Token m.LeftParen ∷ s.Make a.StartParameters ∷ s.Parameters ∷ s.Token m.End ∷ s.Make a.Function ∷ s.Semicolon ∷ s.Chunk ∷ [])
-chunk_row opened (k.Name role) = Takes (s.Token m.Assign ∷ s.Expression ∷ s.Make a.Assignment ∷ s.Make (a.Restore opened) ∷ s.Semicolon ∷ s.Chunk ∷ [])
-chunk_row opened k.EndOfText = Takes []
-chunk_row opened _ = Refuses
+-- whether it is an operator that binds at least so tightly
+abbrev pub binds : ℕ → Kind → Bool
+binds least kind = op_binds least (binary_of kind)
 
--- a block that the token before it opens
-abbrev pub a_block : ℕ → Bool → List Symbol → List Symbol
-a_block opened in_loop behind = s.Make a.StartBlock ∷ s.Block in_loop ∷ s.Make (a.Restore opened) ∷ behind
+-- whether a statement begins with it
+abbrev pub begins_statement : Kind → Bool
+begins_statement k.Local = true
+begins_statement (k.Name role) = true
+begins_statement k.If = true
+begins_statement k.While = true
+begins_statement k.Repeat = true
+begins_statement k.For = true
+begins_statement k.Do = true
+begins_statement k.Break = true
+begins_statement k.Return = true
+begins_statement _ = false
 
-abbrev pub parameters_row : ℕ → Kind → Row
-parameters_row opened (k.Name role) = Takes (s.Make a.AddParameter ∷ s.MoreParameters ∷ [])
-parameters_row opened k.RightParen = Opens (a_block opened false [])
-parameters_row opened _ = Refuses
-
-abbrev pub more_parameters_row : ℕ → Kind → Row
-more_parameters_row opened k.Comma = Takes (s.Token m.Name ∷ s.Make a.AddParameter ∷ s.MoreParameters ∷ [])
-more_parameters_row opened k.RightParen = Opens (a_block opened false [])
-more_parameters_row opened _ = Refuses
-
--- ---- statements
-
--- what ends a statement of a block, where further ones may come
-abbrev pub and_on : ℕ → Bool → List Symbol
-and_on opened in_loop = s.Make (a.Restore opened) ∷ s.Semicolon ∷ s.Block in_loop ∷ []
-
-abbrev pub break_row : ℕ → Bool → Row
-break_row opened true = Takes (s.Make a.Break ∷ and_on opened true)
-break_row opened false = Refuses
-
-abbrev pub block_row : ℕ → Bool → Kind → ℕ → Row
-block_row opened in_loop k.Local line = Takes (s.Token m.Name ∷ s.LocalValue ∷ and_on opened in_loop)
-block_row opened in_loop (k.Name role) line = Takes (s.Target role line ∷ and_on opened in_loop)
-block_row opened in_loop k.If line = Takes (s.Make a.StartArms ∷ s.Expression ∷ s.ThenBlock in_loop ∷ s.Make a.AddArm ∷ s.Arms in_loop ∷ and_on opened in_loop)
-block_row opened in_loop k.While line = Takes (s.Expression ∷ s.DoBlock ∷ s.Token m.End ∷ s.Make a.While ∷ and_on opened in_loop)
-block_row opened in_loop k.Repeat line = Opens (a_block opened true (s.Token m.Until ∷ s.Expression ∷ s.Make a.Repeat ∷ and_on opened in_loop))
-block_row opened in_loop k.For line = Takes (s.Token m.Name ∷ s.Token m.Assign ∷ s.Expression ∷ s.Token m.Comma ∷ s.Expression ∷ s.ForStep line ∷ and_on opened in_loop)
-block_row opened in_loop k.Do line = Opens (a_block opened in_loop (s.Token m.End ∷ s.Make a.Do ∷ and_on opened in_loop))
-block_row opened in_loop k.Break line = break_row opened in_loop
-block_row opened in_loop k.Return line = Takes (s.ReturnValue ∷ s.Make (a.Restore opened) ∷ s.Semicolon ∷ [])
-block_row opened in_loop _ line = Passes a.Nothing
-
-abbrev pub local_value_row : Kind → Row
-local_value_row k.Assign = Takes (s.Expression ∷ s.Make a.LocalWith ∷ [])
-local_value_row _ = Passes a.LocalWithout
-
-abbrev pub then_block_row : ℕ → Bool → Kind → Row
-then_block_row opened in_loop k.Then = Opens (a_block opened in_loop [])
-then_block_row opened in_loop _ = Refuses
-
-abbrev pub arms_row : ℕ → Bool → Kind → Row
-arms_row opened in_loop k.ElseIf = Takes (s.Expression ∷ s.ThenBlock in_loop ∷ s.Make a.AddArm ∷ s.Arms in_loop ∷ [])
-arms_row opened in_loop k.Else = Opens (a_block opened in_loop (s.Token m.End ∷ s.Make a.IfElse ∷ []))
-arms_row opened in_loop k.End = Takes (s.Make a.If ∷ [])
-arms_row opened in_loop _ = Refuses
-
-abbrev pub do_block_row : ℕ → Kind → Row
-do_block_row opened k.Do = Opens (a_block opened true [])
-do_block_row opened _ = Refuses
-
-abbrev pub for_step_row : ℕ → ℕ → Kind → Row
-for_step_row opened for_line k.Comma = Takes (s.Expression ∷ s.DoBlock ∷ s.Token m.End ∷ s.Make (a.ForStep for_line) ∷ [])
-for_step_row opened for_line k.Do = Opens (a_block opened true (s.Token m.End ∷ s.Make (a.For for_line) ∷ []))
-for_step_row opened for_line _ = Refuses
-
--- ---- a statement that begins with a name: the target of an assignment, or a call
-
--- the arguments of a call, whose bracket was just taken
-abbrev pub called : Action → List Symbol → List Symbol
-called call behind = s.Make a.StartArguments ∷ s.Arguments ∷ s.Make call ∷ behind
-
--- what a call of a library makes
-abbrev pub library_call : Role → ℕ → Action
-library_call Math line = a.MathCall line
-library_call Table line = a.TableCall line
-library_call Plain line = a.Call line
-
-abbrev pub is_library : Role → Bool
-is_library Plain = false
-is_library Math = true
-is_library Table = true
-
--- an index, whose bracket was just taken
-abbrev pub indexed : ℕ → List Symbol → List Symbol
-indexed opened behind = s.Expression ∷ s.Token m.RightBracket ∷ s.Make (a.Restore (inside opened)) ∷ behind
-
--- behind a name
-abbrev pub target_row : ℕ → Role → ℕ → Kind → ℕ → Row
-target_row opened role name_line k.Assign line = Takes (s.Expression ∷ s.Make a.Assign ∷ [])
-target_row opened role name_line k.LeftParen line = Opens (called (a.Call name_line) (s.TargetCall ∷ []))
-target_row opened role name_line k.Dot line = Opens (s.Make a.Name ∷ s.MemberTarget role line ∷ [])
-target_row opened role name_line k.LeftBracket line = Opens (s.Make a.Name ∷ indexed opened (s.TargetIndex line ∷ []))
-target_row opened role name_line _ line = Refuses
-
--- behind a dot
-abbrev pub member_target_row : Role → ℕ → Kind → ℕ → Row
-member_target_row role dot_line (k.Name name) line = Takes (s.TargetMember role dot_line line ∷ [])
-member_target_row role dot_line _ line = Refuses
-
--- the call of a library's function, where the name is that of a library
-abbrev pub library_target_row : Role → ℕ → Row
-library_target_row role name_line = if is_library role then Opens (called (library_call role name_line) (s.TargetCall ∷ [])) else Refuses
-
--- behind a dot and a name
-abbrev pub target_member_row : ℕ → Role → ℕ → ℕ → Kind → ℕ → Row
-target_member_row opened role dot_line name_line k.Assign line = Takes (s.Expression ∷ s.Make (a.SetMember dot_line) ∷ [])
-target_member_row opened role dot_line name_line k.Dot line = Opens (s.Make (a.Member dot_line) ∷ s.MemberTarget Plain line ∷ [])
-target_member_row opened role dot_line name_line k.LeftBracket line = Opens (s.Make (a.Member dot_line) ∷ indexed opened (s.TargetIndex line ∷ []))
-target_member_row opened role dot_line name_line k.LeftParen line = library_target_row role name_line
-target_member_row opened role dot_line name_line _ line = Refuses
-
--- behind an index
-abbrev pub target_index_row : ℕ → ℕ → Kind → ℕ → Row
-target_index_row opened index_line k.Assign line = Takes (s.Expression ∷ s.Make (a.SetIndex index_line) ∷ [])
-target_index_row opened index_line k.Dot line = Opens (s.Make (a.Index index_line) ∷ s.MemberTarget Plain line ∷ [])
-target_index_row opened index_line k.LeftBracket line = Opens (s.Make (a.Index index_line) ∷ indexed opened (s.TargetIndex line ∷ []))
-target_index_row opened index_line _ line = Refuses
-
--- behind a call
-abbrev pub target_call_row : ℕ → Kind → ℕ → Row
-target_call_row opened k.Dot line = Opens (s.MemberTarget Plain line ∷ [])
-target_call_row opened k.LeftBracket line = Opens (indexed opened (s.TargetIndex line ∷ []))
-target_call_row opened _ line = Passes a.CallStatement
+-- `;`, or nothing
+pub data IsSemicolon : List Token → List Token → Type 0 where
+  present : {ts rest : List Token} → Is k.Semicolon ts rest → IsSemicolon ts rest
+  absent : {ts : List Token} → Without is_semicolon ts → IsSemicolon ts ts
 
 -- ---- expressions
 
--- an operand, by its first token
-abbrev pub operand_row : ℕ → Kind → ℕ → Row
-operand_row opened k.Nil line = Takes (s.Make a.Nil ∷ [])
-operand_row opened k.True line = Takes (s.Make a.True ∷ [])
-operand_row opened k.False line = Takes (s.Make a.False ∷ [])
-operand_row opened (k.Number value) line = Takes (s.Make (a.Number value) ∷ [])
-operand_row opened k.Str line = Takes (s.Make (a.Str line) ∷ [])
-operand_row opened (k.Name role) line = Takes (s.AfterName role line ∷ s.Suffix ∷ [])
-operand_row opened k.LeftParen line = Opens (s.Expression ∷ s.Token m.RightParen ∷ s.Make (a.Restore opened) ∷ [])
-operand_row opened k.LeftBrace line = Opens (s.Make a.StartEntries ∷ s.Entries ∷ s.Make a.Construct ∷ s.Make (a.Restore opened) ∷ [])
-operand_row opened k.Not line = Opens (s.Operand ∷ s.Make (a.Unary unary.Not line) ∷ [])
-operand_row opened k.Minus line = Opens (s.Operand ∷ s.Make (a.Unary unary.Minus line) ∷ [])
-operand_row opened k.Hash line = Opens (s.Operand ∷ s.Make (a.Unary unary.Length line) ∷ [])
-operand_row opened _ line = Refuses
+mutual
+  -- an operand, and operations on it that bind at least so tightly
+  pub data IsExpression : ℕ → List Token → Expr → List Token → Type 0 where
+    expression : {least : ℕ} {ts behind rest : List Token} {a b : Expr} → IsOperand ts a behind → IsOperations least a behind b rest → IsExpression least ts b rest
 
--- whether a token begins an expression
-abbrev pub begins_expression : Kind → Bool
-begins_expression k.Nil = true
-begins_expression k.True = true
-begins_expression k.False = true
-begins_expression (k.Number value) = true
-begins_expression k.Str = true
-begins_expression (k.Name role) = true
-begins_expression k.LeftParen = true
-begins_expression k.LeftBrace = true
-begins_expression k.Not = true
-begins_expression k.Minus = true
-begins_expression k.Hash = true
-begins_expression _ = false
+  -- operations on what stands on their left, one after the other; the right side has the operations that bind more tightly, or as tightly where the operator groups to the right
+  pub data IsOperations : ℕ → Expr → List Token → Expr → List Token → Type 0 where
+    no_more : {least : ℕ} {left : Expr} {ts : List Token} → Without (binds least) ts → IsOperations least left ts left ts
+    operation : {least line : ℕ} {kind : Kind} {text : List ℕ} {op : BinaryOp} {left right all : Expr} {ts behind rest : List Token} →
+        binary_of kind ≡ Some op → nat_le least (level op) ≡ true → IsExpression (right_level op) ts right behind →
+        IsOperations least (e.Binary op left right line) behind all rest → IsOperations least left (token kind line text ∷ ts) all rest
 
-abbrev pub return_value_row : Kind → Row
-return_value_row kind = if begins_expression kind then Begins (s.Operators 1 ∷ s.Make a.ReturnWith ∷ []) else Passes a.ReturnWithout
+  pub data IsOperand : List Token → Expr → List Token → Type 0 where
+    nil : {ts rest : List Token} → Is k.Nil ts rest → IsOperand ts e.Nil rest
+    yes : {ts rest : List Token} → Is k.True ts rest → IsOperand ts e.True rest
+    no : {ts rest : List Token} → Is k.False ts rest → IsOperand ts e.False rest
+    number : {value : ℤ} {ts rest : List Token} → Is (k.Number value) ts rest → IsOperand ts (e.Number value) rest
+    string : {line : ℕ} {text : List ℕ} {rest : List Token} → IsOperand (token k.Str line text ∷ rest) (e.Str text line) rest
+    prefix : {role : Role} {line : ℕ} {text : List ℕ} {ts behind rest : List Token} {a b : Expr} →
+        IsNamed role line text ts a behind → AreSuffixes a behind b rest → IsOperand (token (k.Name role) line text ∷ ts) b rest
+    grouping : {ts inner behind rest : List Token} {a : Expr} → Is k.LeftParen ts inner → IsExpression 1 inner a behind → Is k.RightParen behind rest → IsOperand ts a rest
+    construct : {ts inner rest : List Token} {entries : List Entry} → Is k.LeftBrace ts inner → AreEntries inner entries rest → IsOperand ts (e.Construct entries) rest
+    negation : {line : ℕ} {text : List ℕ} {ts rest : List Token} {a : Expr} → IsOperand ts a rest → IsOperand (token k.Not line text ∷ ts) (e.Unary unary.Not a line) rest
+    minus : {line : ℕ} {text : List ℕ} {ts rest : List Token} {a : Expr} → IsOperand ts a rest → IsOperand (token k.Minus line text ∷ ts) (e.Unary unary.Minus a line) rest
+    length_of : {line : ℕ} {text : List ℕ} {ts rest : List Token} {a : Expr} → IsOperand ts a rest → IsOperand (token k.Hash line text ∷ ts) (e.Unary unary.Length a line) rest
 
--- an operator with its right side, and then what comes behind
-abbrev pub operation : BinaryOp → ℕ → List Symbol → List Symbol
-operation op line behind = s.Operand ∷ s.Operators (right_level op) ∷ s.Make (a.Binary op line) ∷ behind
+  -- what stands behind a name, which is on that line: a call, what is a library's, or nothing
+  pub data IsNamed : Role → ℕ → List ℕ → List Token → Expr → List Token → Type 0 where
+    alone : {role : Role} {line : ℕ} {text : List ℕ} {ts : List Token} → Without (calls role) ts → IsNamed role line text ts (e.Name text) ts
+    call : {role : Role} {line : ℕ} {text : List ℕ} {ts inner rest : List Token} {args : List Expr} → Is k.LeftParen ts inner → AreArguments inner args rest → IsNamed role line text ts (e.Call text args line) rest
+    library : {role : Role} {line dot_line : ℕ} {text dot : List ℕ} {ts rest : List Token} {a : Expr} → is_library role ≡ true →
+        IsLibrarys role dot_line (e.Name text) ts a rest → IsNamed role line text (token k.Dot dot_line dot ∷ ts) a rest
 
-abbrev pub operators_with : ℕ → Option BinaryOp → ℕ → Row
-operators_with least (Some op) line = if nat_le least (level op) then Opens (operation op line (s.Operators least ∷ [])) else Passes a.Nothing
-operators_with least None line = Passes a.Nothing
+  -- what stands behind a library's name and a dot: a name that is called, or a member
+  pub data IsLibrarys : Role → ℕ → Expr → List Token → Expr → List Token → Type 0 where
+    librarys : {role name_role : Role} {dot_line line : ℕ} {library a : Expr} {text : List ℕ} {ts rest : List Token} →
+        IsFunction role dot_line line library text ts a rest → IsLibrarys role dot_line library (token (k.Name name_role) line text ∷ ts) a rest
 
-abbrev pub operators_row : ℕ → Kind → ℕ → Row
-operators_row least kind line = operators_with least (binary_of kind) line
+  pub data IsFunction : Role → ℕ → ℕ → Expr → List ℕ → List Token → Expr → List Token → Type 0 where
+    math_call : {dot_line line : ℕ} {library : Expr} {text : List ℕ} {ts inner rest : List Token} {args : List Expr} → Is k.LeftParen ts inner → AreArguments inner args rest →
+        IsFunction Math dot_line line library text ts (e.MathCall text args line) rest
+    table_call : {dot_line line : ℕ} {library : Expr} {text : List ℕ} {ts inner rest : List Token} {args : List Expr} → Is k.LeftParen ts inner → AreArguments inner args rest →
+        IsFunction Table dot_line line library text ts (e.TableCall text args line) rest
+    member : {role : Role} {dot_line line : ℕ} {library : Expr} {text : List ℕ} {ts : List Token} → Without is_paren ts → IsFunction role dot_line line library text ts (e.Member library text dot_line) ts
 
--- behind a name
-abbrev pub after_name_row : Role → ℕ → Kind → ℕ → Row
-after_name_row role name_line k.LeftParen line = Opens (called (a.Call name_line) [])
-after_name_row role name_line k.Dot line = if is_library role then Opens (s.Make a.Name ∷ s.LibraryName role line ∷ []) else Passes a.Name
-after_name_row role name_line _ line = Passes a.Name
+  -- members and indexes, one after the other
+  pub data AreSuffixes : Expr → List Token → Expr → List Token → Type 0 where
+    none : {a : Expr} {ts : List Token} → Without is_suffix ts → AreSuffixes a ts a ts
+    dotted : {line : ℕ} {dot text : List ℕ} {a b : Expr} {ts behind rest : List Token} → IsName ts text behind → AreSuffixes (e.Member a text line) behind b rest → AreSuffixes a (token k.Dot line dot ∷ ts) b rest
+    indexed : {line : ℕ} {bracket : List ℕ} {a key b : Expr} {ts inner behind rest : List Token} → IsExpression 1 ts key inner → Is k.RightBracket inner behind →
+        AreSuffixes (e.Index a key line) behind b rest → AreSuffixes a (token k.LeftBracket line bracket ∷ ts) b rest
 
--- behind the dot of a library
-abbrev pub library_name_row : Role → ℕ → Kind → ℕ → Row
-library_name_row role dot_line (k.Name name) line = Takes (s.AfterMember role dot_line line ∷ [])
-library_name_row role dot_line _ line = Refuses
+  -- arguments, parted by commas, up to and with the closing bracket
+  pub data AreArguments : List Token → List Expr → List Token → Type 0 where
+    no_arguments : {ts rest : List Token} → Is k.RightParen ts rest → AreArguments ts [] rest
+    arguments : {ts behind rest : List Token} {a : Expr} {more : List Expr} → IsExpression 1 ts a behind → AreMoreArguments behind more rest → AreArguments ts (a ∷ more) rest
 
--- behind a library's name, a dot and a name: a member, unless it is called
-abbrev pub after_member_row : Role → ℕ → ℕ → Kind → Row
-after_member_row role dot_line name_line k.LeftParen = Opens (called (library_call role name_line) [])
-after_member_row role dot_line name_line _ = Passes (a.Member dot_line)
+  pub data AreMoreArguments : List Token → List Expr → List Token → Type 0 where
+    last_argument : {ts rest : List Token} → Is k.RightParen ts rest → AreMoreArguments ts [] rest
+    another : {ts inner behind rest : List Token} {a : Expr} {more : List Expr} → Is k.Comma ts inner → IsExpression 1 inner a behind → AreMoreArguments behind more rest → AreMoreArguments ts (a ∷ more) rest
 
--- members and indexes behind an operand that can have them
-abbrev pub suffix_row : ℕ → Kind → ℕ → Row
-suffix_row opened k.Dot line = Opens (s.Token m.Name ∷ s.Make (a.Member line) ∷ s.Suffix ∷ [])
-suffix_row opened k.LeftBracket line = Opens (indexed opened (s.Make (a.Index line) ∷ s.Suffix ∷ []))
-suffix_row opened _ line = Passes a.Nothing
+  -- entries of a constructor, parted by `,` or `;`, with one more allowed after the last, up to and with the closing bracket
+  pub data AreEntries : List Token → List Entry → List Token → Type 0 where
+    no_entries : {ts rest : List Token} → Is k.RightBrace ts rest → AreEntries ts [] rest
+    entries : {ts behind rest : List Token} {one : Entry} {more : List Entry} → IsEntry ts one behind → AreMoreEntries behind more rest → AreEntries ts (one ∷ more) rest
 
--- arguments, parted by commas, up to and with the closing bracket
-abbrev pub arguments_row : ℕ → Kind → Row
-arguments_row opened k.RightParen = Takes []
-arguments_row opened _ = Begins (s.Operators 1 ∷ s.Make a.AddArgument ∷ s.Make (a.Restore opened) ∷ s.MoreArguments ∷ [])
+  pub data AreMoreEntries : List Token → List Entry → List Token → Type 0 where
+    last_entry : {ts rest : List Token} → Is k.RightBrace ts rest → AreMoreEntries ts [] rest
+    comma : {ts inner rest : List Token} {more : List Entry} → Is k.Comma ts inner → AreEntries inner more rest → AreMoreEntries ts more rest
+    semicolon : {ts inner rest : List Token} {more : List Entry} → Is k.Semicolon ts inner → AreEntries inner more rest → AreMoreEntries ts more rest
 
-abbrev pub more_arguments_row : ℕ → Kind → Row
-more_arguments_row opened k.Comma = Takes (s.Expression ∷ s.Make a.AddArgument ∷ s.Make (a.Restore opened) ∷ s.MoreArguments ∷ [])
-more_arguments_row opened k.RightParen = Takes []
-more_arguments_row opened _ = Refuses
+  pub data IsEntry : List Token → Entry → List Token → Type 0 where
+    value : {ts rest : List Token} {a : Expr} → IsExpression 1 ts a rest → IsEntry ts (entry.Value a) rest
+    named : {ts inner behind rest : List Token} {text : List ℕ} {a : Expr} → IsName ts text inner → Is k.Assign inner behind → IsExpression 1 behind a rest → IsEntry ts (entry.Named text a) rest
+    keyed : {line : ℕ} {text : List ℕ} {ts inner assign behind rest : List Token} {key a : Expr} → IsExpression 1 ts key inner → Is k.RightBracket inner assign → Is k.Assign assign behind →
+        IsExpression 1 behind a rest → IsEntry (token k.LeftBracket line text ∷ ts) (entry.Keyed key a line) rest
 
--- ---- constructors: items, parted by `,` or `;`, with one more allowed after the last
+-- ---- statements that begin with a name
 
--- the end of an item
-abbrev pub to_next : ℕ → List Symbol
-to_next opened = s.Make (a.Restore opened) ∷ s.MoreEntries ∷ []
+mutual
+  -- behind a name: an assignment to it, or to a member or an index, or a call
+  pub data IsOfName : Role → ℕ → List ℕ → List Token → LuaStatement → List Token → Type 0 where
+    assign_name : {role : Role} {line : ℕ} {text : List ℕ} {ts inner rest : List Token} {a : Expr} → Is k.Assign ts inner → IsExpression 1 inner a rest → IsOfName role line text ts (statement.Assign text a) rest
+    call_name : {role : Role} {line : ℕ} {text : List ℕ} {ts inner behind rest : List Token} {args : List Expr} {s : LuaStatement} → Is k.LeftParen ts inner → AreArguments inner args behind →
+        IsOfCall (e.Call text args line) behind s rest → IsOfName role line text ts s rest
+    member_name : {role : Role} {line dot_line : ℕ} {text dot : List ℕ} {ts rest : List Token} {s : LuaStatement} → IsOfDot role dot_line (e.Name text) ts s rest → IsOfName role line text (token k.Dot dot_line dot ∷ ts) s rest
+    index_name : {role : Role} {line index_line : ℕ} {text bracket : List ℕ} {ts inner behind rest : List Token} {key : Expr} {s : LuaStatement} → IsExpression 1 ts key inner → Is k.RightBracket inner behind →
+        IsOfIndex index_line (e.Name text) key behind s rest → IsOfName role line text (token k.LeftBracket index_line bracket ∷ ts) s rest
 
-abbrev pub entries_row : ℕ → Kind → ℕ → Row
-entries_row opened k.RightBrace line = Takes []
-entries_row opened k.LeftBracket line = Takes (s.Expression ∷ s.Token m.RightBracket ∷ s.Token m.Assign ∷ s.Expression ∷ s.Make (a.AddKeyed line) ∷ to_next opened)
-entries_row opened (k.Name role) line = Takes (s.EntryName role line ∷ to_next opened)
-entries_row opened _ line = Begins (s.Operators 1 ∷ s.Make a.AddValue ∷ to_next opened)
+  -- behind a dot
+  pub data IsOfDot : Role → ℕ → Expr → List Token → LuaStatement → List Token → Type 0 where
+    dot : {role name_role : Role} {dot_line line : ℕ} {text : List ℕ} {of : Expr} {ts rest : List Token} {s : LuaStatement} → IsOfMember role dot_line line of text ts s rest →
+        IsOfDot role dot_line of (token (k.Name name_role) line text ∷ ts) s rest
 
-abbrev pub more_entries_row : Kind → Row
-more_entries_row k.Comma = Takes (s.Entries ∷ [])
-more_entries_row k.Semicolon = Takes (s.Entries ∷ [])
-more_entries_row k.RightBrace = Takes []
-more_entries_row _ = Refuses
+  -- behind a dot and a name
+  pub data IsOfMember : Role → ℕ → ℕ → Expr → List ℕ → List Token → LuaStatement → List Token → Type 0 where
+    assign_member : {role : Role} {dot_line line : ℕ} {of a : Expr} {text : List ℕ} {ts inner rest : List Token} → Is k.Assign ts inner → IsExpression 1 inner a rest →
+        IsOfMember role dot_line line of text ts (statement.SetMember of text a dot_line) rest
+    member_member : {role : Role} {dot_line line next_line : ℕ} {of : Expr} {text next : List ℕ} {ts rest : List Token} {s : LuaStatement} → IsOfDot Plain next_line (e.Member of text dot_line) ts s rest →
+        IsOfMember role dot_line line of text (token k.Dot next_line next ∷ ts) s rest
+    index_member : {role : Role} {dot_line line index_line : ℕ} {of key : Expr} {text bracket : List ℕ} {ts inner behind rest : List Token} {s : LuaStatement} → IsExpression 1 ts key inner → Is k.RightBracket inner behind →
+        IsOfIndex index_line (e.Member of text dot_line) key behind s rest → IsOfMember role dot_line line of text (token k.LeftBracket index_line bracket ∷ ts) s rest
+    call_math : {dot_line line : ℕ} {of : Expr} {text : List ℕ} {ts inner behind rest : List Token} {args : List Expr} {s : LuaStatement} → Is k.LeftParen ts inner → AreArguments inner args behind →
+        IsOfCall (e.MathCall text args line) behind s rest → IsOfMember Math dot_line line of text ts s rest
+    call_table : {dot_line line : ℕ} {of : Expr} {text : List ℕ} {ts inner behind rest : List Token} {args : List Expr} {s : LuaStatement} → Is k.LeftParen ts inner → AreArguments inner args behind →
+        IsOfCall (e.TableCall text args line) behind s rest → IsOfMember Table dot_line line of text ts s rest
 
--- what goes on with an expression that is an item
-abbrev pub item_goes_on : List Symbol
-item_goes_on = s.Suffix ∷ s.Operators 1 ∷ s.Make a.AddValue ∷ []
+  -- behind an index
+  pub data IsOfIndex : ℕ → Expr → Expr → List Token → LuaStatement → List Token → Type 0 where
+    assign_index : {line : ℕ} {of key a : Expr} {ts inner rest : List Token} → Is k.Assign ts inner → IsExpression 1 inner a rest → IsOfIndex line of key ts (statement.SetIndex of key a line) rest
+    member_index : {line next_line : ℕ} {of key : Expr} {next : List ℕ} {ts rest : List Token} {s : LuaStatement} → IsOfDot Plain next_line (e.Index of key line) ts s rest → IsOfIndex line of key (token k.Dot next_line next ∷ ts) s rest
+    index_index : {line next_line : ℕ} {of key next_key : Expr} {next : List ℕ} {ts inner behind rest : List Token} {s : LuaStatement} → IsExpression 1 ts next_key inner → Is k.RightBracket inner behind →
+        IsOfIndex next_line (e.Index of key line) next_key behind s rest → IsOfIndex line of key (token k.LeftBracket next_line next ∷ ts) s rest
 
--- behind a name with which an item begins: an operator, or the end of the item
-abbrev pub entry_operation : Option BinaryOp → ℕ → Row
-entry_operation (Some op) line = Opens (s.Make a.Name ∷ operation op line (s.Operators 1 ∷ s.Make a.AddValue ∷ []))
-entry_operation None line = Passes a.AddName
+  -- behind a call
+  pub data IsOfCall : Expr → List Token → LuaStatement → List Token → Type 0 where
+    call_alone : {call : Expr} {ts : List Token} → Without is_suffix ts → IsOfCall call ts (statement.Call call) ts
+    member_call : {line : ℕ} {dot : List ℕ} {call : Expr} {ts rest : List Token} {s : LuaStatement} → IsOfDot Plain line call ts s rest → IsOfCall call (token k.Dot line dot ∷ ts) s rest
+    index_call : {line : ℕ} {bracket : List ℕ} {call key : Expr} {ts inner behind rest : List Token} {s : LuaStatement} → IsExpression 1 ts key inner → Is k.RightBracket inner behind →
+        IsOfIndex line call key behind s rest → IsOfCall call (token k.LeftBracket line bracket ∷ ts) s rest
 
--- behind a name and a dot with which an item begins
-abbrev pub entry_member : Role → ℕ → Row
-entry_member role line = if is_library role then Opens (s.Make a.Name ∷ s.LibraryName role line ∷ item_goes_on) else Opens (s.Make a.Name ∷ s.Token m.Name ∷ s.Make (a.Member line) ∷ item_goes_on)
+-- ---- blocks
 
--- behind a name with which an item begins
-abbrev pub entry_name_row : ℕ → Role → ℕ → Kind → ℕ → Row
-entry_name_row opened role name_line k.Assign line = Takes (s.Expression ∷ s.Make a.AddNamed ∷ [])
-entry_name_row opened role name_line k.LeftParen line = Opens (called (a.Call name_line) item_goes_on)
-entry_name_row opened role name_line k.LeftBracket line = Opens (s.Make a.Name ∷ indexed opened (s.Make (a.Index line) ∷ item_goes_on))
-entry_name_row opened role name_line k.Dot line = entry_member role line
-entry_name_row opened role name_line kind line = entry_operation (binary_of kind) line
+-- a block of the tree
+abbrev pub block_of : List LuaStatement → LuaBlock
+block_of statements = roll-LuaBlock (record { statements = statements })
 
--- ---- the table: a symbol, how many are open, a token's kind and its line
+pub data IsLocalValue : List Token → Option Expr → List Token → Type 0 where
+  local_value : {ts inner rest : List Token} {a : Expr} → Is k.Assign ts inner → IsExpression 1 inner a rest → IsLocalValue ts (Some a) rest
+  no_local_value : {ts : List Token} → Without is_assign ts → IsLocalValue ts None ts
 
-unfoldable pub row : Symbol → ℕ → Kind → ℕ → Row
-row s.Chunk opened kind line = chunk_row opened kind
-row (s.Token mark) opened kind line = token_row mark kind
-row s.Semicolon opened kind line = semicolon_row kind
-row s.Parameters opened kind line = parameters_row opened kind
-row s.MoreParameters opened kind line = more_parameters_row opened kind
-row (s.Block in_loop) opened kind line = block_row opened in_loop kind line
-row s.LocalValue opened kind line = local_value_row kind
-row s.ReturnValue opened kind line = return_value_row kind
-row (s.ThenBlock in_loop) opened kind line = then_block_row opened in_loop kind
-row (s.Arms in_loop) opened kind line = arms_row opened in_loop kind
-row s.DoBlock opened kind line = do_block_row opened kind
-row (s.ForStep for_line) opened kind line = for_step_row opened for_line kind
-row (s.Target role name_line) opened kind line = target_row opened role name_line kind line
-row (s.MemberTarget role dot_line) opened kind line = member_target_row role dot_line kind line
-row (s.TargetMember role dot_line name_line) opened kind line = target_member_row opened role dot_line name_line kind line
-row (s.TargetIndex index_line) opened kind line = target_index_row opened index_line kind line
-row s.TargetCall opened kind line = target_call_row opened kind line
-row s.Expression opened kind line = Begins (s.Operators 1 ∷ [])
-row s.Operand opened kind line = Begins []
-row (s.Operators least) opened kind line = operators_row least kind line
-row (s.AfterName role name_line) opened kind line = after_name_row role name_line kind line
-row (s.LibraryName role dot_line) opened kind line = library_name_row role dot_line kind line
-row (s.AfterMember role dot_line name_line) opened kind line = after_member_row role dot_line name_line kind
-row s.Suffix opened kind line = suffix_row opened kind line
-row s.Arguments opened kind line = arguments_row opened kind
-row s.MoreArguments opened kind line = more_arguments_row opened kind
-row s.Entries opened kind line = entries_row opened kind line
-row s.MoreEntries opened kind line = more_entries_row kind
-row (s.EntryName role name_line) opened kind line = entry_name_row opened role name_line kind line
-row (s.Make action) opened kind line = Passes action
+pub data IsReturnValue : List Token → Option Expr → List Token → Type 0 where
+  return_value : {ts rest : List Token} {a : Expr} → IsExpression 1 ts a rest → IsReturnValue ts (Some a) rest
+  no_return_value : {ts : List Token} → Without begins_expression ts → IsReturnValue ts None ts
+
+mutual
+  -- statements, of which only the last may be a `return`; the truth value says whether a loop stands around
+  pub data IsBlock : Bool → List Token → List LuaStatement → List Token → Type 0 where
+    no_statements : {in_loop : Bool} {ts : List Token} → Without begins_statement ts → IsBlock in_loop ts [] ts
+    statements : {in_loop : Bool} {ts inner behind rest : List Token} {s : LuaStatement} {more : List LuaStatement} → IsStatement in_loop ts s inner → IsSemicolon inner behind → IsBlock in_loop behind more rest →
+        IsBlock in_loop ts (s ∷ more) rest
+    returned : {in_loop : Bool} {ts inner behind rest : List Token} {value : Option Expr} → Is k.Return ts inner → IsReturnValue inner value behind → IsSemicolon behind rest → IsBlock in_loop ts (statement.Return value ∷ []) rest
+
+  pub data IsStatement : Bool → List Token → LuaStatement → List Token → Type 0 where
+    local_statement : {in_loop : Bool} {ts inner behind rest : List Token} {text : List ℕ} {value : Option Expr} → Is k.Local ts inner → IsName inner text behind → IsLocalValue behind value rest → IsStatement in_loop ts (statement.Local text value) rest
+    of_name : {in_loop : Bool} {role : Role} {line : ℕ} {text : List ℕ} {ts rest : List Token} {s : LuaStatement} → IsOfName role line text ts s rest → IsStatement in_loop (token (k.Name role) line text ∷ ts) s rest
+    conditional : {in_loop : Bool} {ts inner then_at behind rest : List Token} {test : Expr} {body : List LuaStatement} {arms : List Arm} {otherwise : Option LuaBlock} → Is k.If ts inner → IsExpression 1 inner test then_at →
+        IsThenBlock in_loop then_at body behind → AreArms in_loop behind arms otherwise rest →
+        IsStatement in_loop ts (statement.If (roll-Arm (record { test = test; body = block_of body }) ∷ arms) otherwise) rest
+    while_statement : {in_loop : Bool} {ts inner do_at behind rest : List Token} {test : Expr} {body : List LuaStatement} → Is k.While ts inner → IsExpression 1 inner test do_at → IsDoBlock do_at body behind → Is k.End behind rest →
+        IsStatement in_loop ts (statement.While test (block_of body)) rest
+    repeat_statement : {in_loop : Bool} {ts inner until_at behind rest : List Token} {test : Expr} {body : List LuaStatement} → Is k.Repeat ts inner → IsBlock true inner body until_at → Is k.Until until_at behind → IsExpression 1 behind test rest →
+        IsStatement in_loop ts (statement.Repeat (block_of body) test) rest
+    for_statement : {in_loop : Bool} {line : ℕ} {word text : List ℕ} {ts assign first_at comma last_at behind rest : List Token} {first last : Expr} {by : Option Expr} {body : List LuaStatement} →
+        IsName ts text assign → Is k.Assign assign first_at → IsExpression 1 first_at first comma → Is k.Comma comma last_at → IsExpression 1 last_at last behind → IsForBody behind by body rest →
+        IsStatement in_loop (token k.For line word ∷ ts) (statement.For text first last by (block_of body) line) rest
+    do_statement : {in_loop : Bool} {ts inner behind rest : List Token} {body : List LuaStatement} → Is k.Do ts inner → IsBlock in_loop inner body behind → Is k.End behind rest → IsStatement in_loop ts (statement.Do (block_of body)) rest
+    break_statement : {ts rest : List Token} → Is k.Break ts rest → IsStatement true ts statement.Break rest
+
+  pub data IsThenBlock : Bool → List Token → List LuaStatement → List Token → Type 0 where
+    then_block : {in_loop : Bool} {ts inner rest : List Token} {body : List LuaStatement} → Is k.Then ts inner → IsBlock in_loop inner body rest → IsThenBlock in_loop ts body rest
+
+  pub data IsDoBlock : List Token → List LuaStatement → List Token → Type 0 where
+    do_block : {ts inner rest : List Token} {body : List LuaStatement} → Is k.Do ts inner → IsBlock true inner body rest → IsDoBlock ts body rest
+
+  -- further arms of an `if`, and the block of `else`
+  pub data AreArms : Bool → List Token → List Arm → Option LuaBlock → List Token → Type 0 where
+    elseif : {in_loop : Bool} {ts inner then_at behind rest : List Token} {test : Expr} {body : List LuaStatement} {arms : List Arm} {otherwise : Option LuaBlock} → Is k.ElseIf ts inner → IsExpression 1 inner test then_at →
+        IsThenBlock in_loop then_at body behind → AreArms in_loop behind arms otherwise rest →
+        AreArms in_loop ts (roll-Arm (record { test = test; body = block_of body }) ∷ arms) otherwise rest
+    else_block : {in_loop : Bool} {ts inner behind rest : List Token} {body : List LuaStatement} → Is k.Else ts inner → IsBlock in_loop inner body behind → Is k.End behind rest → AreArms in_loop ts [] (Some (block_of body)) rest
+    no_else : {in_loop : Bool} {ts rest : List Token} → Is k.End ts rest → AreArms in_loop ts [] None rest
+
+  -- what stands behind the second bound of a `for`
+  pub data IsForBody : List Token → Option Expr → List LuaStatement → List Token → Type 0 where
+    with_step : {ts inner do_at behind rest : List Token} {a : Expr} {body : List LuaStatement} → Is k.Comma ts inner → IsExpression 1 inner a do_at → IsDoBlock do_at body behind → Is k.End behind rest → IsForBody ts (Some a) body rest
+    no_step : {ts inner behind rest : List Token} {body : List LuaStatement} → Is k.Do ts inner → IsBlock true inner body behind → Is k.End behind rest → IsForBody ts None body rest
+
+-- ---- the chunk
+
+mutual
+  -- names, parted by commas, up to and with the closing bracket
+  pub data AreParameters : List Token → List (List ℕ) → List Token → Type 0 where
+    no_parameters : {ts rest : List Token} → Is k.RightParen ts rest → AreParameters ts [] rest
+    parameters : {ts behind rest : List Token} {text : List ℕ} {more : List (List ℕ)} → IsName ts text behind → AreMoreParameters behind more rest → AreParameters ts (text ∷ more) rest
+
+  pub data AreMoreParameters : List Token → List (List ℕ) → List Token → Type 0 where
+    last_parameter : {ts rest : List Token} → Is k.RightParen ts rest → AreMoreParameters ts [] rest
+    another_parameter : {ts inner behind rest : List Token} {text : List ℕ} {more : List (List ℕ)} → Is k.Comma ts inner → IsName inner text behind → AreMoreParameters behind more rest → AreMoreParameters ts (text ∷ more) rest
+
+-- items, up to and with the end of the text
+pub data AreItems : List Token → List Item → List Token → Type 0 where
+  no_items : {ts rest : List Token} → Is k.EndOfText ts rest → AreItems ts [] rest
+  function : {ts named paren inner body_at end_at behind others rest : List Token} {text : List ℕ} {params : List (List ℕ)} {body : List LuaStatement} {more : List Item} →
+      Is k.Function ts named → IsName named text paren → Is k.LeftParen paren inner → AreParameters inner params body_at → IsBlock false body_at body end_at → Is k.End end_at behind → IsSemicolon behind others → AreItems others more rest →
+      AreItems ts (item.Function text params (block_of body) ∷ more) rest
+  assignment : {ts assign inner behind others rest : List Token} {text : List ℕ} {a : Expr} {more : List Item} → IsName ts text assign → Is k.Assign assign inner → IsExpression 1 inner a behind → IsSemicolon behind others → AreItems others more rest →
+      AreItems ts (item.Assign text a ∷ more) rest
+
+-- the tokens are a chunk with these items
+abbrev pub IsChunkOf : List Token → List Item → Type 0
+IsChunkOf tokens items = AreItems tokens items []
+
+-- the items of a text that is read are the tree of its tokens
+abbrev pub ReadTextsAreChunks : Type 0
+ReadTextsAreChunks = (text : List ℕ) (items : List Item) → tree_of text ≡ Ok items → IsChunkOf (tokens text) items

@@ -8,9 +8,10 @@ use Rattle.lua_syntax.specs.declared.building.Building.{Building}
 use Rattle.lua_syntax.specs.declared.piece.Token.{Token}
 use Rattle.lua_syntax.specs.declared.tree.Item.{Item}
 use Rattle.lua_syntax.specs.Refusal.{LuaRefusal, Syntax, TooDeep}
-use Rattle.lua_syntax.specs.Grammar.{row, operand_row}
+use Rattle.lua_syntax.specs.Table.{row, operand_row}
 use Rattle.lua_syntax.specs.Building.{act, nothing_read}
 use Rattle.lua_syntax.specs.Tokens.{tokens}
+use Rattle.lua_syntax.specs.Grammar.{IsChunkOf}
 use Rattle.lua_syntax.specs.Reading.{keeps_text, tree_of}
 use Rattle.lua_syntax.specs.declared.symbol.Symbol.TheVariants as s
 
@@ -71,6 +72,10 @@ abbrev pub IsAnswer : List Token → Result (List Item) LuaRefusal → Type 0
 IsAnswer tokens (Ok items) = IsChunk tokens
 IsAnswer tokens (Err (Syntax line)) = (wrong : Token) × (line ≡ wrong.line) × IsFirstWrong tokens wrong
 IsAnswer tokens (Err (TooDeep line)) = (deep : Token) × (line ≡ deep.line) × GoesOnWith tokens deep
+
+-- what the table derives is a chunk of the grammar
+abbrev pub DerivedIsAChunk : Type 0
+DerivedIsAChunk = (tokens : List Token) → IsChunk tokens → (items : List Item) × IsChunkOf tokens items
 
 -- each text is answered so; the end of the text is a token on the last line
 abbrev pub TextsAnswer : Type 0

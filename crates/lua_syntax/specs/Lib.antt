@@ -1,10 +1,11 @@
 pub mod Stacks
-pub mod Grammar
+pub mod Table
 pub mod Refusal
 pub mod Building
 pub mod Tokens
 pub mod Reading
 pub mod Steps
 pub mod Defines
+pub mod Grammar
 pub mod Language
 pub mod Plain

@@ -13,7 +13,7 @@ use Rattle.lua_syntax.specs.declared.symbol.Row.TheVariants.{Takes, Opens, Begin
 use Rattle.lua_syntax.specs.declared.building.Building.{Building}
 use Rattle.lua_syntax.specs.declared.piece.Token.{Token}
 use Rattle.lua_syntax.specs.Refusal.{LuaRefusal, Syntax, TooDeep}
-use Rattle.lua_syntax.specs.Grammar.{row, operand_row, most_open}
+use Rattle.lua_syntax.specs.Table.{row, operand_row, most_open}
 use Rattle.lua_syntax.specs.Building.{act, nothing_read}
 use Rattle.lua_syntax.specs.Tokens.{tokens}
 

@@ -1,6 +1,6 @@
 //! The rows of expressions.
 ghost use Rattle.std.specs.Prelude.{◌≡◌, [], ◌∷◌};
-ghost use Rattle.lua_syntax.specs.Grammar as spec;
+ghost use Rattle.lua_syntax.specs.Table as spec;
 
 use crate::kind::{Kind, Role};
 use crate::symbol::Symbol::{Make, Token};

@@ -1,12 +1,12 @@
 //! The table of the grammar: what becomes of a symbol before a token.
 ghost use Rattle.std.specs.Prelude.{◌≡◌};
-ghost use Rattle.lua_syntax.specs.Grammar as spec;
+ghost use Rattle.lua_syntax.specs.Table as spec;
 
 use crate::kind::Kind;
 use crate::symbol::{Row, Symbol, begins};
 use crate::{expressions as e, statements as s, targets as t};
 
-#[tactic(auto, unfolding(crate::specs::Grammar::row))]
+#[tactic(auto, unfolding(crate::specs::Table::row))]
 pub fn row(symbol: Symbol, opened: usize, kind: Kind, line: usize) -> Row
     ensures { result ≡ spec.row symbol opened kind line }
 {

@@ -1,6 +1,6 @@
 //! The rows of the chunk and of statements.
 ghost use Rattle.std.specs.Prelude.{◌≡◌, []};
-ghost use Rattle.lua_syntax.specs.Grammar as spec;
+ghost use Rattle.lua_syntax.specs.Table as spec;
 
 use crate::expressions::begins_expression;
 use crate::kind::Kind;

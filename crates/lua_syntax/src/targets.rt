@@ -1,6 +1,6 @@
 //! The rows of a statement that begins with a name: the target of an assignment, or a call.
 ghost use Rattle.std.specs.Prelude.{◌≡◌, [], ◌∷◌};
-ghost use Rattle.lua_syntax.specs.Grammar as spec;
+ghost use Rattle.lua_syntax.specs.Table as spec;
 
 use crate::expressions::{inside, is_library, library_call};
 use crate::kind::{Kind, Role};
