@@ -1,7 +1,7 @@
 //! A law of saves.
 ghost use Rattle.tis_save.specs.ReadingBack.{SavesReadBack};
 
-/// The canonical save of a programs whose jumps stay inside is read as that programs.
+/// The canonical save of programs whose jumps stay inside is read as these programs.
 pub fn saves_read_back()
     ensures { SavesReadBack }
 {}
