@@ -1,4 +1,4 @@
--- The program that a text spells, over all its lines: each line is read by itself, with the names of labels, and then the labels are looked up over all lines.
+-- The program that a text spells, over all its lines: each line is read below the labels of those above it, and then the labels are looked up over all lines.
 use Rattle.std.specs.Prelude.{ℕ, ◌+◌, ◌-◌, ◌*◌, ℤ, pos, neg_ℤ, Bool, true, false, ◌||◌, ◌&&◌, not, List, [], ◌∷◌, ◌++◌, length, map, drop, filter, Option, Some, None, option_map, option_and_then, Result, Ok, Err, codes, ◌==◌, nat_lt, nat_le, if◌then◌else◌}
 use Rattle.std.specs.Char.{is_ascii_digit}
 use Rattle.std.specs.List.{list_all, list_any}
@@ -39,7 +39,7 @@ is_filled (byte ∷ bytes) = true
 abbrev pub words_of : List ℕ → List (List ℕ)
 words_of line = filter is_filled (pieces_where is_gap line)
 
--- a small letter as a capital one, since letters of either case are the same
+-- a small letter as its capital: the two aren't told apart
 abbrev pub capital : ℕ → ℕ
 capital byte = if nat_le 97 byte && nat_le byte 122 then byte - 32 else byte
 
@@ -53,17 +53,17 @@ dir_of_word word =
 abbrev pub is_digit : ℕ → Bool
 is_digit byte = is_ascii_digit byte
 
--- the number that these digits are, behind the number of those before them
+-- the number that digits write whose first ones wrote this number; none, where one of them is no digit
 abbrev pub digits_number : ℕ → List ℕ → Option ℕ
 digits_number number [] = Some number
 digits_number number (byte ∷ digits) = if is_digit byte then digits_number (10 * number + (byte - 48)) digits else None
 
--- one or more digits
+-- the number that one or more digits write
 abbrev pub number_of_digits : List ℕ → Option ℕ
 number_of_digits [] = None
 number_of_digits (byte ∷ digits) = digits_number 0 (byte ∷ digits)
 
--- a number with a `-`, a `+` or no sign in front; past either end it is the nearest value
+-- a number with a `-`, a `+` or no sign in front, held within -999 and 999
 abbrev pub number_of_word : List ℕ → Option ℤ
 number_of_word [] = None
 number_of_word (byte ∷ digits) =
@@ -102,7 +102,7 @@ jump_of_word word =
     (if bytes_eq word (codes "JGZ") then Some jump.IfPositive else
     (if bytes_eq word (codes "JLZ") then Some jump.IfNegative else None))))
 
--- a byte from 33 to 126 that is no `,`, `:`, `#` or `!`
+-- a visible sign of ASCII other than `,`, `:`, `#` and `!`
 abbrev pub is_label_byte : ℕ → Bool
 is_label_byte byte = nat_le 33 byte && nat_le byte 126 && not (byte == 44 || byte == 58 || byte == 35 || byte == 33)
 
@@ -174,7 +174,7 @@ abbrev pub instr_or_none : List (List ℕ) → Option (Option NamedInstr)
 instr_or_none [] = Some None
 instr_or_none (word ∷ words) = option_map (λ instr. Some instr) (instr_of_words (word ∷ words))
 
--- what stands behind the label: `!` or none, and an instruction or none
+-- a line of this label, marked already or not, with what stands behind it: `!` or none, and an instruction or none
 abbrev pub marked_part : Bool → Option (List ℕ) → List ℕ → Option CodeLine
 marked_part mark label rest = option_map (λ instr. record { label = label; mark = mark || is_marked rest; instr = instr }) (instr_or_none (words_of (without_mark rest)))
 
@@ -197,6 +197,7 @@ line_of line = let rest = without_gaps line in parts_of (is_marked rest) (pieces
 
 -- ---- all lines
 
+-- blanks and tabs alone; a comma or a comment is more than that
 abbrev pub is_blank : List ℕ → Bool
 is_blank line = list_all (λ byte. byte == 32 || byte == 9) line
 
@@ -265,7 +266,7 @@ label_at count (line ∷ lines) label = if is_named label line.label then Some c
 abbrev pub wrapped : ℕ → ℕ → ℕ
 wrapped count number = if number == count then 0 else number
 
--- the instruction that a label names in these lines: the next one on its line or later, and the first one where none comes
+-- the instruction that a label names in these lines, by how many stand before it; a label at the end is the first instruction's
 abbrev pub label_number : List CodeLine → List ℕ → Option ℕ
 label_number lines label = option_map (wrapped (instr_count lines)) (label_at 0 lines label)
 
@@ -282,7 +283,7 @@ abbrev pub onto_program : List CodeLine → ℕ → Bool → Option NamedInstr �
 onto_program all number mark None rest = rest
 onto_program all number mark (Some instr) rest = with_instr number mark (resolved all instr) rest
 
--- the instructions of these lines among all lines, the first of which has this number
+-- the instructions of these lines, where the first of these has this number and labels are looked up in all lines
 abbrev pub program_of : List CodeLine → ℕ → List CodeLine → Result (List MarkedInstr) AsmRefusal
 program_of all number [] = Ok []
 program_of all number (line ∷ lines) = onto_program all number line.mark line.instr (program_of all (number + 1) lines)
@@ -291,7 +292,7 @@ abbrev pub program_where : Result (List CodeLine) AsmRefusal → Result (List Ma
 program_where (Err refusal) = Err refusal
 program_where (Ok lines) = program_of lines 1 lines
 
--- the program of these lines: at most fifteen of them, each is a line of a program, and each jump goes to a label
+-- the program of these lines, or the first refusal: without the blank lines at the end there are at most fifteen, each is a line of a program, and each jump goes to a label
 abbrev pub assembled_lines : List (List ℕ) → Result (List MarkedInstr) AsmRefusal
 assembled_lines lines = if nat_lt 15 (length (without_blank_end lines)) then Err TooManyLines else program_where (lines_read 1 [] (without_blank_end lines))
 

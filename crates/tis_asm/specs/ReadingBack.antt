@@ -6,7 +6,7 @@ use Rattle.tis_asm.specs.Programs.{HasValues, IsSound}
 use Rattle.tis_asm.specs.Code.{code_lines, code_text}
 use Rattle.tis_asm.specs.Assembling.{is_blank, assembled_lines, assembled}
 
--- what is written of a program, whose numbers are values and whose jumps stay inside, is read as that program
+-- what is written of a program of at most fifteen instructions, whose numbers are values and whose jumps stay inside, is read as that program
 abbrev pub ProgramsReadBack : Type 0
 ProgramsReadBack = (program : List MarkedInstr) → length program ≤ 15 → HasValues program → IsSound program → assembled (code_text program) ≡ Ok program
 

@@ -75,7 +75,7 @@ pub enum Instr {
     Neg,
     /// A jump to the instruction with this number, from 0 on.
     Jump(Jump, u8),
-    /// `JRO`: goes so many instructions on, or back.
+    /// `JRO`: goes so many instructions on, or back, and stops at the first and at the last one.
     Jro(Source),
 }
 

@@ -2,3 +2,4 @@ pub mod Blocks
 pub mod SaveLines
 pub mod SavesReadBack
 pub mod Examples
+pub mod Sound

@@ -42,7 +42,7 @@ number_of_head (byte ∷ bytes) = head_number bytes
 
 -- ---- all lines
 
--- what is wrong with a head of this number, below heads of these numbers, where there are so many blocks
+-- what is wrong with a head of this number, below heads of these numbers, where there are so many compute tiles
 abbrev pub block_fault : ℕ → List ℕ → ℕ → ℕ → Option SaveRefusal
 block_fault count above at number =
     if nat_le count number then Some (UnknownBlock at) else
@@ -80,7 +80,7 @@ pub record Block : Type 0 where
   pub number : ℕ
   pub lines : List (List ℕ)
 
--- the blocks of these lines, in order
+-- the blocks of these lines, in order; a head without a number, which is refused before, begins block 0
 abbrev pub blocks_of : List (List ℕ) → List Block
 blocks_of [] = []
 blocks_of (line ∷ lines) = if is_head line then record { number = unwrap_or (number_of_head line) 0; lines = take_while is_code lines } ∷ blocks_of lines else blocks_of lines

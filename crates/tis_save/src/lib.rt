@@ -17,5 +17,5 @@
 mod laws;
 mod write;
 
-pub use laws::saves_read_back;
+pub use laws::{saves_are_sound, saves_read_back};
 pub use write::write_save;
