@@ -10,4 +10,5 @@ mod Plain
 mod Writing
 mod Sound
 mod Open
+mod Scan
 mod Refused

@@ -65,7 +65,24 @@ statement_ends (CountOf var) block depth number end inside is = (depth, inside, 
 
 -- ---- results
 
-read_not : {X : Type 0} (x : X) (refusal : NetRefusal) → ◌≡◌ {A = Result X NetRefusal} (Err refusal) (Ok x) → ⊥
+pub refused_not : {X : Type 0} (x : X) (refusal : NetRefusal) → ◌≡◌ {A = Result X NetRefusal} (Ok x) (Err refusal) → ⊥
+refused_not {X = X} x refusal e = elsewhere (ap is_read e)
+  where
+    is_read : Result X NetRefusal → Bool
+    is_read (Ok y) = true
+    is_read (Err r) = false
+
+    elsewhere : true ≡ false → ⊥
+    elsewhere is = absurd cc
+
+pub same_refusal : {X : Type 0} (one two : NetRefusal) → ◌≡◌ {A = Result X NetRefusal} (Err one) (Err two) → one ≡ two
+same_refusal {X = X} one two e = ap refusal_in e
+  where
+    refusal_in : Result X NetRefusal → NetRefusal
+    refusal_in (Ok y) = one
+    refusal_in (Err r) = r
+
+pub read_not : {X : Type 0} (x : X) (refusal : NetRefusal) → ◌≡◌ {A = Result X NetRefusal} (Err refusal) (Ok x) → ⊥
 read_not {X = X} x refusal e = elsewhere (ap is_read e)
   where
     is_read : Result X NetRefusal → Bool
@@ -75,7 +92,7 @@ read_not {X = X} x refusal e = elsewhere (ap is_read e)
     elsewhere : false ≡ true → ⊥
     elsewhere is = absurd cc
 
-same_read : {X : Type 0} (one two : X) → ◌≡◌ {A = Result X NetRefusal} (Ok one) (Ok two) → one ≡ two
+pub same_read : {X : Type 0} (one two : X) → ◌≡◌ {A = Result X NetRefusal} (Ok one) (Ok two) → one ≡ two
 same_read {X = X} one two e = ap read_in e
   where
     read_in : Result X NetRefusal → X

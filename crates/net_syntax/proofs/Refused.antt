@@ -5,33 +5,15 @@ use Rattle.tis_base.specs.Tiles.{Tiles}
 use Rattle.net_syntax.specs.Tree.{Name, Block, Empty, with_last, Net, NetRefusal, BadLine, TooDeep, StrayEnd, Unclosed}
 use Rattle.net_syntax.specs.Forms as forms
 use Rattle.net_syntax.specs.Forms.{LineForm, Line, lines_of}
-use Rattle.net_syntax.specs.Grammar.{line, IsNet, bare_net, GoesOn, IsFirstWrong, IsCloser, next_number}
+use Rattle.net_syntax.specs.Grammar.{line, IsNet, bare_net, GoesOn, GoesOnDeeper, IsFirstWrong, IsCloser, next_number}
 use Rattle.net_syntax.specs.Reading.{BlockRole, FirstOf, SecondOf, WhileOf, CountOf, OpenStatement, OpenProcess, Configuration, after_line, after_lines, and_then, still_open, with_open_block, second_role, else_in, after_else, after_end, line_inside, line_outside, refusal_of, innermost_line, answer_of, statement_with, net_at_end, after_all, after_version, tiles_of_line, head_of_line, net_with, net_of}
 use Rattle.net_syntax.specs.Laws.{IsBlockLine, IsBlamedOn, IsBlamed}
 use Rattle.net_syntax.proofs.Plain.{ArePlain, lines_are_plain}
 use Rattle.net_syntax.proofs.Limits.{stops_here}
 use Rattle.net_syntax.proofs.Derived.{during, between, net_is}
 use Rattle.net_syntax.proofs.Sound.{lines_are}
-use Rattle.net_syntax.proofs.Open.{IsStanding, lines_stand, is_unclosed}
-
--- ---- results
-
-refused_not : {X : Type 0} (x : X) (refusal : NetRefusal) → ◌≡◌ {A = Result X NetRefusal} (Ok x) (Err refusal) → ⊥
-refused_not {X = X} x refusal e = elsewhere (ap is_read e)
-  where
-    is_read : Result X NetRefusal → Bool
-    is_read (Ok y) = true
-    is_read (Err r) = false
-
-    elsewhere : true ≡ false → ⊥
-    elsewhere is = absurd cc
-
-same_refusal : {X : Type 0} (one two : NetRefusal) → ◌≡◌ {A = Result X NetRefusal} (Err one) (Err two) → one ≡ two
-same_refusal {X = X} one two e = ap refusal_in e
-  where
-    refusal_in : Result X NetRefusal → NetRefusal
-    refusal_in (Ok y) = one
-    refusal_in (Err r) = r
+use Rattle.net_syntax.proofs.Open.{refused_not, same_refusal, IsStanding, lines_stand, is_unclosed}
+use Rattle.net_syntax.proofs.Scan.{version_first, tiles_second, others_pass, never_passes}
 
 -- ---- lines behind lines
 
@@ -144,42 +126,79 @@ not_closer form is = λ closer. elim closer [ inl e ↦ elsewhere (sym (ap close
     elsewhere : true ≡ false → ⊥
     elsewhere e = absurd cc
 
-blamed_as : {X : Type 0} (one two : NetRefusal) (wrong : Line) → ◌≡◌ {A = Result X NetRefusal} (Err one) (Err two) → IsBlamedOn one wrong → IsBlamedOn two wrong
-blamed_as one two wrong e is = subst (λ (r : NetRefusal). IsBlamedOn r wrong) (same_refusal one two e) is
+-- the refusal has the number of this line, and fits what it says
+abbrev IsNamed : NetRefusal → Line → Type 0
+IsNamed (StrayEnd number) wrong = (number ≡ wrong.number) × IsCloser wrong.form
+IsNamed (TooDeep number) wrong = (number ≡ wrong.number) × IsBlockLine wrong.form
+IsNamed (BadLine number) wrong = (number ≡ wrong.number) × (¬ IsCloser wrong.form)
+IsNamed (Unclosed number) wrong = ⊥
 
-stray_or_bad : (number : ℕ) (form : LineForm) → IsBlamedOn (refusal_of number form) (line number form)
+named_as : {X : Type 0} (one two : NetRefusal) (wrong : Line) → ◌≡◌ {A = Result X NetRefusal} (Err one) (Err two) → IsNamed one wrong → IsNamed two wrong
+named_as one two wrong e is = subst (λ (r : NetRefusal). IsNamed r wrong) (same_refusal one two e) is
+
+with_depth : (refusal : NetRefusal) (before : List Line) (wrong : Line) → IsNamed refusal wrong → ((n : ℕ) → refusal ≡ BadLine n → ¬ GoesOnDeeper before wrong) → IsBlamedOn refusal before wrong
+with_depth (StrayEnd number) before wrong is deeper = is
+with_depth (TooDeep number) before wrong is deeper = is
+with_depth (BadLine number) before wrong is deeper = (is.0, is.1, deeper number refl)
+with_depth (Unclosed number) before wrong is deeper = is
+
+-- the same of the refusal that is answered
+blamed_at : {X : Type 0} (one two : NetRefusal) (before : List Line) (wrong : Line) → ◌≡◌ {A = Result X NetRefusal} (Err one) (Err two) → IsNamed one wrong → ((n : ℕ) → one ≡ BadLine n → ¬ GoesOnDeeper before wrong) → IsBlamedOn two before wrong
+blamed_at one two before wrong e is deeper = subst (λ (r : NetRefusal). IsBlamedOn r before wrong) (same_refusal one two e) (with_depth one before wrong is deeper)
+
+is_version : LineForm → Bool
+is_version forms.Version = true
+is_version form = false
+
+is_tiles : LineForm → Bool
+is_tiles (forms.TilesLine tiles) = true
+is_tiles form = false
+
+untrue : true ≡ false → ⊥
+untrue e = absurd cc
+
+-- a first line that isn't that of a network is wrong however deep
+first_never : (number : ℕ) (form : LineForm) → is_version form ≡ false → ¬ GoesOnDeeper [] (line number form)
+unfolding is_version
+first_never number form other = λ goes. untrue (sym (ap is_version (version_first goes.0 (line number form) goes.1.0 goes.1.1 goes.1.2)) ∙ other)
+
+second_never : (first : Line) (number : ℕ) (form : LineForm) → is_tiles form ≡ false → ¬ GoesOnDeeper (first ∷ []) (line number form)
+unfolding is_tiles
+second_never first number form other = λ goes. untrue (sym (ap is_tiles (tiles_second goes.0 first (line number form) goes.1.0 goes.1.1 goes.1.2)) ∙ other)
+
+stray_or_bad : (number : ℕ) (form : LineForm) → IsNamed (refusal_of number form) (line number form)
 unfolding closes
 stray_or_bad number forms.End = (refl, inl refl)
 stray_or_bad number forms.Else = (refl, inr refl)
 stray_or_bad number form = (refl, not_closer form refl)
 
-outside_blamed : (net : Net) (number : ℕ) (form : LineForm) (refusal : NetRefusal) → line_outside net number form ≡ Err refusal → IsBlamedOn refusal (line number form)
+outside_blamed : (net : Net) (number : ℕ) (form : LineForm) (refusal : NetRefusal) → line_outside net number form ≡ Err refusal → IsNamed refusal (line number form)
 outside_blamed net number (forms.Input name position via) refusal e = absurd (refused_not _ refusal e)
 outside_blamed net number (forms.Output name position via) refusal e = absurd (refused_not _ refusal e)
 outside_blamed net number (forms.Channel name via) refusal e = absurd (refused_not _ refusal e)
 outside_blamed net number (forms.Process name at) refusal e = absurd (refused_not _ refusal e)
-outside_blamed net number form refusal e = blamed_as (refusal_of number form) refusal (line number form) e (stray_or_bad number form)
+outside_blamed net number form refusal e = named_as (refusal_of number form) refusal (line number form) e (stray_or_bad number form)
 
-opens_blamed : (net : Net) (opened : OpenProcess) (number : ℕ) (role : BlockRole) (form : LineForm) (refusal : NetRefusal) → IsBlockLine form → still_open net (with_open_block opened number role) ≡ Err refusal → IsBlamedOn refusal (line number form)
+opens_blamed : (net : Net) (opened : OpenProcess) (number : ℕ) (role : BlockRole) (form : LineForm) (refusal : NetRefusal) → IsBlockLine form → still_open net (with_open_block opened number role) ≡ Err refusal → IsNamed refusal (line number form)
 opens_blamed net opened number role form refusal opens e = by (nat_lt (length opened.around) 16) e
   where
-    by : (b : Bool) → still_open net (cond b (Ok (record opened { block = Empty; around = record { line = number; role = role; before = opened.block } ∷ opened.around })) (Err (TooDeep number))) ≡ Err refusal → IsBlamedOn refusal (line number form)
+    by : (b : Bool) → still_open net (cond b (Ok (record opened { block = Empty; around = record { line = number; role = role; before = opened.block } ∷ opened.around })) (Err (TooDeep number))) ≡ Err refusal → IsNamed refusal (line number form)
     by true ok = absurd (refused_not _ refusal ok)
-    by false err = blamed_as (TooDeep number) refusal (line number form) err (refl, opens)
+    by false err = named_as (TooDeep number) refusal (line number form) err (refl, opens)
 
-else_blamed : (net : Net) (opened : OpenProcess) (number : ℕ) (around : List OpenStatement) (refusal : NetRefusal) → still_open net (after_else opened number around) ≡ Err refusal → IsBlamedOn refusal (line number forms.Else)
-else_blamed net opened number [] refusal e = blamed_as (StrayEnd number) refusal (line number forms.Else) e (refl, inr refl)
+else_blamed : (net : Net) (opened : OpenProcess) (number : ℕ) (around : List OpenStatement) (refusal : NetRefusal) → still_open net (after_else opened number around) ≡ Err refusal → IsNamed refusal (line number forms.Else)
+else_blamed net opened number [] refusal e = named_as (StrayEnd number) refusal (line number forms.Else) e (refl, inr refl)
 else_blamed net opened number (inner ∷ around) refusal e = by (second_role inner.role opened.block) e
   where
-    by : (role : Option BlockRole) → still_open net (else_in opened number inner around role) ≡ Err refusal → IsBlamedOn refusal (line number forms.Else)
-    by None err = blamed_as (StrayEnd number) refusal (line number forms.Else) err (refl, inr refl)
+    by : (role : Option BlockRole) → still_open net (else_in opened number inner around role) ≡ Err refusal → IsNamed refusal (line number forms.Else)
+    by None err = named_as (StrayEnd number) refusal (line number forms.Else) err (refl, inr refl)
     by (Some role) ok = absurd (refused_not _ refusal ok)
 
-end_blamed : (net : Net) (opened : OpenProcess) (number : ℕ) (around : List OpenStatement) (refusal : NetRefusal) → after_end net opened around ≡ Err refusal → IsBlamedOn refusal (line number forms.End)
+end_blamed : (net : Net) (opened : OpenProcess) (number : ℕ) (around : List OpenStatement) (refusal : NetRefusal) → after_end net opened around ≡ Err refusal → IsNamed refusal (line number forms.End)
 end_blamed net opened number [] refusal e = absurd (refused_not _ refusal e)
 end_blamed net opened number (inner ∷ around) refusal e = absurd (refused_not _ refusal e)
 
-inside_blamed : (net : Net) (opened : OpenProcess) (number : ℕ) (form : LineForm) (refusal : NetRefusal) → line_inside net opened number form ≡ Err refusal → IsBlamedOn refusal (line number form)
+inside_blamed : (net : Net) (opened : OpenProcess) (number : ℕ) (form : LineForm) (refusal : NetRefusal) → line_inside net opened number form ≡ Err refusal → IsNamed refusal (line number form)
 unfolding closes
 inside_blamed net opened number (forms.Simple statement) refusal e = absurd (refused_not _ refusal e)
 inside_blamed net opened number (forms.OpensIf var test) refusal e = opens_blamed net opened number (FirstOf var test) (forms.OpensIf var test) refusal tt e
@@ -187,9 +206,9 @@ inside_blamed net opened number (forms.OpensWhile var test) refusal e = opens_bl
 inside_blamed net opened number (forms.OpensCount var) refusal e = opens_blamed net opened number (CountOf var) (forms.OpensCount var) refusal tt e
 inside_blamed net opened number forms.Else refusal e = else_blamed net opened number opened.around refusal e
 inside_blamed net opened number forms.End refusal e = end_blamed net opened number opened.around refusal e
-inside_blamed net opened number form refusal e = blamed_as (BadLine number) refusal (line number form) e (refl, not_closer form refl)
+inside_blamed net opened number form refusal e = named_as (BadLine number) refusal (line number form) e (refl, not_closer form refl)
 
-line_blamed : (net : Net) (open_process : Option OpenProcess) (number : ℕ) (form : LineForm) (refusal : NetRefusal) → after_line net open_process number form ≡ Err refusal → IsBlamedOn refusal (line number form)
+line_blamed : (net : Net) (open_process : Option OpenProcess) (number : ℕ) (form : LineForm) (refusal : NetRefusal) → after_line net open_process number form ≡ Err refusal → IsNamed refusal (line number form)
 line_blamed net None number form refusal e = outside_blamed net number form refusal e
 line_blamed net (Some opened) number form refusal e = inside_blamed net opened number form refusal e
 
@@ -227,30 +246,32 @@ tail_blamed next number second tiles others refusal plain (Err r) is e =
     inl (
       s.wrong,
       record { before = front; behind = s.behind; split = ap (λ (ls : List Line). line number forms.Version ∷ (line second (forms.TilesLine tiles) ∷ ls)) s.split; goes_on = goes; stops = stops },
-      blamed_as r refusal s.wrong e (line_blamed s.reached.net s.reached.open_process s.wrong.number s.wrong.form r s.stops),
+      blamed_at r refusal front s.wrong e (line_blamed s.reached.net s.reached.open_process s.wrong.number s.wrong.form r s.stops)
+      (λ n bad goes. never_passes s.before goes.1.0 s.wrong start s.reached n refl s.goes (s.stops ∙ ap (λ (x : NetRefusal). Err x) bad)
+      (others_pass goes.0 (line number forms.Version) (line second (forms.TilesLine tiles)) ((s.before ++ s.wrong ∷ []) ++ goes.1.0) goes.1.1 goes.1.2)),
     )
 
 -- the second line
 second_blamed : (next number second : ℕ) (form : LineForm) (others : List Line) (refusal : NetRefusal) → ArePlain others → answer_of next (line number forms.Version ∷ (line second form ∷ others)) ≡ Err refusal → IsBlamed next (line number forms.Version ∷ (line second form ∷ others)) refusal
-unfolding and_then
+unfolding and_then is_tiles
 second_blamed next number second (forms.TilesLine tiles) others refusal plain e = tail_blamed next number second tiles others refusal plain (after_lines (between (bare_net tiles)) others) refl e
 second_blamed next number second form others refusal plain e =
     inl (
       line second form,
       record { before = line number forms.Version ∷ []; behind = others; split = refl; goes_on = version_goes_on number; stops = never next (line number forms.Version ∷ (line second form ∷ [])) (refusal_of second form) (λ more. refl) },
-      blamed_as (refusal_of second form) refusal (line second form) e (stray_or_bad second form),
+      blamed_at (refusal_of second form) refusal (line number forms.Version ∷ []) (line second form) e (stray_or_bad second form) (λ n bad. second_never (line number forms.Version) second form refl),
     )
 
 -- the first line
 first_blamed : (next number : ℕ) (form : LineForm) (others : List Line) (refusal : NetRefusal) → ArePlain others → answer_of next (line number form ∷ others) ≡ Err refusal → IsBlamed next (line number form ∷ others) refusal
-unfolding and_then
+unfolding and_then is_version
 first_blamed next number forms.Version [] refusal plain e = blamed_whole next (line number forms.Version ∷ []) (BadLine next) refusal e (inr (version_goes_on number, (omega arith, refl)))
 first_blamed next number forms.Version (second ∷ others) refusal plain e = second_blamed next number second.number second.form others refusal plain.1 e
 first_blamed next number form others refusal plain e =
     inl (
       line number form,
       record { before = []; behind = others; split = refl; goes_on = nothing_goes_on; stops = never next (line number form ∷ []) (refusal_of number form) (λ more. refl) },
-      blamed_as (refusal_of number form) refusal (line number form) e (stray_or_bad number form),
+      blamed_at (refusal_of number form) refusal [] (line number form) e (stray_or_bad number form) (λ n bad. first_never number form refl),
     )
 
 lines_blamed : (next : ℕ) (lines : List Line) (refusal : NetRefusal) → ArePlain lines → answer_of next lines ≡ Err refusal → IsBlamed next lines refusal

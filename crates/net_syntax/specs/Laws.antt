@@ -3,7 +3,7 @@ use Rattle.std.specs.Prelude.{◌≡◌, ℕ, ◌≤◌, ◌⊎◌, List, length
 use Rattle.net_syntax.specs.Tree.{Net, NetRefusal, BadLine, TooDeep, StrayEnd, Unclosed}
 use Rattle.net_syntax.specs.Forms as forms
 use Rattle.net_syntax.specs.Forms.{LineForm, Line, lines_of}
-use Rattle.net_syntax.specs.Grammar.{IsNet, GoesOn, IsFirstWrong, IsCloser, IsUnclosed, next_number}
+use Rattle.net_syntax.specs.Grammar.{IsNet, GoesOn, GoesOnDeeper, IsFirstWrong, IsCloser, IsUnclosed, next_number}
 use Rattle.net_syntax.specs.Reading.{net_of}
 
 -- the network that the lines of a text are is the one that the text gives
@@ -21,12 +21,12 @@ IsBlockLine (forms.OpensWhile var test) = Unit {0}
 IsBlockLine (forms.OpensCount var) = Unit {0}
 IsBlockLine form = ⊥
 
--- the refusal has the number of this line, and fits what it says: `end` and `else` are stray, a block may be too deep, and a wrong line is neither `end` nor `else`
-abbrev pub IsBlamedOn : NetRefusal → Line → Type 0
-IsBlamedOn (StrayEnd number) wrong = (number ≡ wrong.number) × IsCloser wrong.form
-IsBlamedOn (TooDeep number) wrong = (number ≡ wrong.number) × IsBlockLine wrong.form
-IsBlamedOn (BadLine number) wrong = (number ≡ wrong.number) × (¬ IsCloser wrong.form)
-IsBlamedOn (Unclosed number) wrong = ⊥
+-- the refusal has the number of this line, which stands behind these, and fits what it says: `end` and `else` are stray, a block may be too deep, and a wrong line is neither, and stays wrong where blocks may be nested deeper
+abbrev pub IsBlamedOn : NetRefusal → List Line → Line → Type 0
+IsBlamedOn (StrayEnd number) before wrong = (number ≡ wrong.number) × IsCloser wrong.form
+IsBlamedOn (TooDeep number) before wrong = (number ≡ wrong.number) × IsBlockLine wrong.form
+IsBlamedOn (BadLine number) before wrong = (number ≡ wrong.number) × (¬ IsCloser wrong.form) × (¬ GoesOnDeeper before wrong)
+IsBlamedOn (Unclosed number) before wrong = ⊥
 
 -- what is missing is blamed: the first or the second line, by the number of the next one, or the end of what is open innermost, by the line that opens it
 abbrev pub IsMissing : ℕ → List Line → NetRefusal → Type 0
@@ -36,7 +36,7 @@ IsMissing next lines refusal = ⊥
 
 -- the first line with which no network goes on is blamed, or, where some network goes on with all lines, what is missing
 abbrev pub IsBlamed : ℕ → List Line → NetRefusal → Type 0
-IsBlamed next lines refusal = ((wrong : Line) × IsFirstWrong lines wrong × IsBlamedOn refusal wrong) ⊎ (GoesOn lines × IsMissing next lines refusal)
+IsBlamed next lines refusal = ((wrong : Line) × (first : IsFirstWrong lines wrong) × IsBlamedOn refusal first.before wrong) ⊎ (GoesOn lines × IsMissing next lines refusal)
 
 -- a text that is refused is refused for its first wrong line, or for what is missing at its end
 abbrev pub FirstWrongLinesAreRefused : Type 0
