@@ -5,14 +5,14 @@ use Rattle.tis_base.specs.Tiles.{Tiles}
 use Rattle.net_syntax.specs.Tree.{Name, Block, Empty, with_last, Net, NetRefusal, BadLine, TooDeep, StrayEnd, Unclosed}
 use Rattle.net_syntax.specs.Forms as forms
 use Rattle.net_syntax.specs.Forms.{LineForm, Line, lines_of}
-use Rattle.net_syntax.specs.Grammar.{line, IsNet, bare_net, GoesOn, GoesOnDeeper, IsFirstWrong, IsCloser, next_number}
+use Rattle.net_syntax.specs.Grammar.{line, IsNet, bare_net, with_declarations, GoesOn, GoesOnDeeper, IsFirstWrong, IsCloser, IsRefusal, IsAnswer, next_number}
 use Rattle.net_syntax.specs.Reading.{BlockRole, FirstOf, SecondOf, WhileOf, CountOf, OpenStatement, OpenProcess, Configuration, after_line, after_lines, and_then, still_open, with_open_block, second_role, else_in, after_else, after_end, line_inside, line_outside, refusal_of, innermost_line, answer_of, statement_with, net_at_end, after_all, after_version, tiles_of_line, head_of_line, net_with, net_of}
-use Rattle.net_syntax.specs.Laws.{IsBlockLine, IsBlamedOn, IsBlamed}
+use Rattle.net_syntax.proofs.Blamed.{IsBlockLine, IsBlamedOn, IsBlamed}
 use Rattle.net_syntax.proofs.Plain.{ArePlain, lines_are_plain}
 use Rattle.net_syntax.proofs.Limits.{stops_here}
 use Rattle.net_syntax.proofs.Derived.{during, between, net_is}
-use Rattle.net_syntax.proofs.Sound.{lines_are}
-use Rattle.net_syntax.proofs.Open.{refused_not, same_refusal, IsStanding, lines_stand, is_unclosed}
+use Rattle.net_syntax.proofs.Sound.{lines_are, read_is_derived}
+use Rattle.net_syntax.proofs.Open.{refused_not, same_refusal, IsStanding, lines_stand, is_unclosed, too_deep_goes_on}
 use Rattle.net_syntax.proofs.Scan.{version_first, tiles_second, others_pass, never_passes}
 
 -- ---- lines behind lines
@@ -136,15 +136,21 @@ IsNamed (Unclosed number) wrong = ⊥
 named_as : {X : Type 0} (one two : NetRefusal) (wrong : Line) → ◌≡◌ {A = Result X NetRefusal} (Err one) (Err two) → IsNamed one wrong → IsNamed two wrong
 named_as one two wrong e is = subst (λ (r : NetRefusal). IsNamed r wrong) (same_refusal one two e) is
 
-with_depth : (refusal : NetRefusal) (before : List Line) (wrong : Line) → IsNamed refusal wrong → ((n : ℕ) → refusal ≡ BadLine n → ¬ GoesOnDeeper before wrong) → IsBlamedOn refusal before wrong
-with_depth (StrayEnd number) before wrong is deeper = is
-with_depth (TooDeep number) before wrong is deeper = is
-with_depth (BadLine number) before wrong is deeper = (is.0, is.1, deeper number refl)
-with_depth (Unclosed number) before wrong is deeper = is
+with_depth : (refusal : NetRefusal) (before : List Line) (wrong : Line) → IsNamed refusal wrong → ((n : ℕ) → IsBlockLine wrong.form → refusal ≡ TooDeep n → GoesOnDeeper before wrong) → ((n : ℕ) → refusal ≡ BadLine n → ¬ GoesOnDeeper before wrong) → IsBlamedOn refusal before wrong
+with_depth (StrayEnd number) before wrong is deep deeper = is
+with_depth (TooDeep number) before wrong is deep deeper = (is.0, is.1, deep number is.1 refl)
+with_depth (BadLine number) before wrong is deep deeper = (is.0, is.1, deeper number refl)
+with_depth (Unclosed number) before wrong is deep deeper = is
 
 -- the same of the refusal that is answered
-blamed_at : {X : Type 0} (one two : NetRefusal) (before : List Line) (wrong : Line) → ◌≡◌ {A = Result X NetRefusal} (Err one) (Err two) → IsNamed one wrong → ((n : ℕ) → one ≡ BadLine n → ¬ GoesOnDeeper before wrong) → IsBlamedOn two before wrong
-blamed_at one two before wrong e is deeper = subst (λ (r : NetRefusal). IsBlamedOn r before wrong) (same_refusal one two e) (with_depth one before wrong is deeper)
+blamed_at : {X : Type 0} (one two : NetRefusal) (before : List Line) (wrong : Line) → ◌≡◌ {A = Result X NetRefusal} (Err one) (Err two) → IsNamed one wrong → ((n : ℕ) → IsBlockLine wrong.form → one ≡ TooDeep n → GoesOnDeeper before wrong) → ((n : ℕ) → one ≡ BadLine n → ¬ GoesOnDeeper before wrong) → IsBlamedOn two before wrong
+blamed_at one two before wrong e is deep deeper = subst (λ (r : NetRefusal). IsBlamedOn r before wrong) (same_refusal one two e) (with_depth one before wrong is deep deeper)
+
+-- the first two lines are never too deep
+not_too_deep : {X : Type 0} (number : ℕ) (form : LineForm) (n : ℕ) → refusal_of number form ≡ TooDeep n → X
+not_too_deep number forms.End n e = absurd cc
+not_too_deep number forms.Else n e = absurd cc
+not_too_deep number form n e = absurd cc
 
 is_version : LineForm → Bool
 is_version forms.Version = true
@@ -221,22 +227,27 @@ blamed_whole next lines one two e is = subst (IsBlamed next lines) (same_refusal
 -- the lines behind the first two
 tail_blamed : (next number second : ℕ) (tiles : Tiles) (others : List Line) (refusal : NetRefusal) → ArePlain others → (read : Result Configuration NetRefusal) → after_lines (between (bare_net tiles)) others ≡ read → and_then read (λ sofar. net_at_end sofar.net sofar.open_process) ≡ Err refusal → IsBlamed next (line number forms.Version ∷ (line second (forms.TilesLine tiles) ∷ others)) refusal
 unfolding and_then
-tail_blamed next number second tiles others refusal plain (Ok sofar) is e = by sofar.open_process (lines_stand others (between (bare_net tiles)) sofar (line number forms.Version ∷ (line second (forms.TilesLine tiles) ∷ [])) plain tt is) e
+tail_blamed next number second tiles others refusal plain (Ok sofar) is e = by sofar.open_process (lines_stand others (between (bare_net tiles)) sofar [] plain ([], refl) is) e
   where
     goes : GoesOn (line number forms.Version ∷ (line second (forms.TilesLine tiles) ∷ others))
     goes = goes_from next (line number forms.Version ∷ (line second (forms.TilesLine tiles) ∷ others)) sofar (tt, (tt, plain)) (λ more. behind_read (between (bare_net tiles)) sofar others more is)
 
-    by : (open_process : Option OpenProcess) → IsStanding open_process (line number forms.Version ∷ (line second (forms.TilesLine tiles) ∷ others)) → net_at_end sofar.net open_process ≡ Err refusal → IsBlamed next (line number forms.Version ∷ (line second (forms.TilesLine tiles) ∷ others)) refusal
+    by : (open_process : Option OpenProcess) → IsStanding open_process others → net_at_end sofar.net open_process ≡ Err refusal → IsBlamed next (line number forms.Version ∷ (line second (forms.TilesLine tiles) ∷ others)) refusal
     by None stands ok = absurd (refused_not _ refusal ok)
     by (Some opened) stands err =
         blamed_whole next (line number forms.Version ∷ (line second (forms.TilesLine tiles) ∷ others)) (Unclosed (innermost_line opened opened.around)) refusal err
-        (inr (goes, is_unclosed opened opened.around stands.0 (line number forms.Version ∷ (line second (forms.TilesLine tiles) ∷ others)) stands.2))
+        (let u = is_unclosed opened opened.around (suc stands.0) others stands.2 in
+        inr (goes, (line number forms.Version ∷ (line second (forms.TilesLine tiles) ∷ u.0), u.1, u.2, ap (λ (ls : List Line). line number forms.Version ∷ (line second (forms.TilesLine tiles) ∷ ls)) u.3, u.4)))
 tail_blamed next number second tiles others refusal plain (Err r) is e =
     let start = between (bare_net tiles) in
     let s = stops_in others start r is in
     let front : List Line = line number forms.Version ∷ (line second (forms.TilesLine tiles) ∷ s.before) in
     let plain_before : ArePlain s.before = plain_first s.before (s.wrong ∷ s.behind) (subst ArePlain s.split plain) in
     let goes : GoesOn front = goes_from next front s.reached (tt, (tt, plain_before)) (λ more. behind_read start s.reached s.before more s.goes) in
+    let deeper : (n : ℕ) → IsBlockLine s.wrong.form → r ≡ TooDeep n → GoesOnDeeper front s.wrong =
+    λ n opens deep.
+    (let d = too_deep_goes_on s.reached.net s.reached.open_process s.before s.wrong.number s.wrong.form n opens (lines_stand s.before start s.reached [] plain_before ([], refl) s.goes) (s.stops ∙ ap (λ (x : NetRefusal). Err x) deep) in
+    (17, (d.0, with_declarations (bare_net tiles) d.1.0, (number, second, tiles, d.1.0, (s.before ++ s.wrong ∷ []) ++ d.0, refl, d.1.1, refl)))) in
     let stops : ¬ GoesOn (front ++ s.wrong ∷ []) =
     never next (front ++ s.wrong ∷ []) r
     (λ more.
@@ -247,8 +258,9 @@ tail_blamed next number second tiles others refusal plain (Err r) is e =
       s.wrong,
       record { before = front; behind = s.behind; split = ap (λ (ls : List Line). line number forms.Version ∷ (line second (forms.TilesLine tiles) ∷ ls)) s.split; goes_on = goes; stops = stops },
       blamed_at r refusal front s.wrong e (line_blamed s.reached.net s.reached.open_process s.wrong.number s.wrong.form r s.stops)
-      (λ n bad goes. never_passes s.before goes.1.0 s.wrong start s.reached n refl s.goes (s.stops ∙ ap (λ (x : NetRefusal). Err x) bad)
-      (others_pass goes.0 (line number forms.Version) (line second (forms.TilesLine tiles)) ((s.before ++ s.wrong ∷ []) ++ goes.1.0) goes.1.1 goes.1.2)),
+          (λ n opens deep. deeper n opens deep)
+          (λ n bad goes. never_passes s.before goes.1.0 s.wrong start s.reached n refl s.goes (s.stops ∙ ap (λ (x : NetRefusal). Err x) bad)
+          (others_pass goes.0 (line number forms.Version) (line second (forms.TilesLine tiles)) ((s.before ++ s.wrong ∷ []) ++ goes.1.0) goes.1.1 goes.1.2)),
     )
 
 -- the second line
@@ -259,7 +271,7 @@ second_blamed next number second form others refusal plain e =
     inl (
       line second form,
       record { before = line number forms.Version ∷ []; behind = others; split = refl; goes_on = version_goes_on number; stops = never next (line number forms.Version ∷ (line second form ∷ [])) (refusal_of second form) (λ more. refl) },
-      blamed_at (refusal_of second form) refusal (line number forms.Version ∷ []) (line second form) e (stray_or_bad second form) (λ n bad. second_never (line number forms.Version) second form refl),
+      blamed_at (refusal_of second form) refusal (line number forms.Version ∷ []) (line second form) e (stray_or_bad second form) (λ n opens deep. not_too_deep second form n deep) (λ n bad. second_never (line number forms.Version) second form refl),
     )
 
 -- the first line
@@ -271,7 +283,7 @@ first_blamed next number form others refusal plain e =
     inl (
       line number form,
       record { before = []; behind = others; split = refl; goes_on = nothing_goes_on; stops = never next (line number form ∷ []) (refusal_of number form) (λ more. refl) },
-      blamed_at (refusal_of number form) refusal [] (line number form) e (stray_or_bad number form) (λ n bad. first_never number form refl),
+      blamed_at (refusal_of number form) refusal [] (line number form) e (stray_or_bad number form) (λ n opens deep. not_too_deep number form n deep) (λ n bad. first_never number form refl),
     )
 
 lines_blamed : (next : ℕ) (lines : List Line) (refusal : NetRefusal) → ArePlain lines → answer_of next lines ≡ Err refusal → IsBlamed next lines refusal
@@ -279,6 +291,21 @@ unfolding and_then
 lines_blamed next [] refusal plain e = blamed_whole next [] (BadLine next) refusal e (inr (nothing_goes_on, (omega arith, refl)))
 lines_blamed next (first ∷ others) refusal plain e = first_blamed next first.number first.form others refusal plain.1 e
 
-pub refused_is_blamed : (text : List ℕ) (refusal : NetRefusal) → net_of text ≡ Err refusal → IsBlamed (next_number text) (lines_of text) refusal
+refused_is_blamed : (text : List ℕ) (refusal : NetRefusal) → net_of text ≡ Err refusal → IsBlamed (next_number text) (lines_of text) refusal
 unfolding net_of
 refused_is_blamed text refusal e = lines_blamed (next_number text) (lines_of text) refusal (lines_are_plain text) e
+
+-- what is blamed is the refusal of the grammar
+blamed_is_refused : (next : ℕ) (lines : List Line) (refusal : NetRefusal) → IsBlamed next lines refusal → IsRefusal next lines refusal
+blamed_is_refused next lines (StrayEnd number) is = elim is [ inl b ↦ (b.0, b.1, b.2.0, b.2.1) | inr m ↦ absurd m.1 ]
+blamed_is_refused next lines (TooDeep number) is = elim is [ inl b ↦ (b.0, b.1, b.2.0, b.2.2) | inr m ↦ absurd m.1 ]
+blamed_is_refused next lines (BadLine number) is = elim is [ inl b ↦ inl (b.0, b.1, b.2.0, b.2.1, b.2.2) | inr m ↦ inr (m.0, m.1.0, m.1.1) ]
+blamed_is_refused next lines (Unclosed number) is = elim is [ inl b ↦ absurd b.2 | inr m ↦ (m.0, m.1) ]
+
+answer_is : (text : List ℕ) (answer : Result Net NetRefusal) → net_of text ≡ answer → IsAnswer text answer
+answer_is text (Ok net) e = read_is_derived text net e
+answer_is text (Err refusal) e = blamed_is_refused (next_number text) (lines_of text) refusal (refused_is_blamed text refusal e)
+
+-- what a text gives is what the grammar says
+pub text_is_answered : (text : List ℕ) → IsAnswer text (net_of text)
+text_is_answered text = answer_is text (net_of text) refl
