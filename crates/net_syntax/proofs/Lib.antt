@@ -9,5 +9,7 @@ mod Derived
 mod Plain
 mod Writing
 mod Sound
+mod Blamed
 mod Open
+mod Scan
 mod Refused

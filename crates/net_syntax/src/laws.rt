@@ -1,5 +1,5 @@
 //! What holds of network texts, apart from any call.
-ghost use Rattle.net_syntax.specs.Laws.{FirstWrongLinesAreRefused, NetworksAreRead, ReadNetworksAreDerived};
+ghost use Rattle.net_syntax.specs.Laws.{NetworksAreRead, ReadNetworksAreDerived, TextsAreAnswered};
 
 /// A text whose lines are a network by the grammar gives that network, and so it gives no other and
 /// is not refused.
@@ -12,8 +12,8 @@ pub fn read_networks_are_derived()
     ensures { ReadNetworksAreDerived }
 {}
 
-/// A text that is refused at a line goes on to no network with that line, and to one with the lines
-/// before it; a text that is refused for what is missing goes on to one with all its lines.
-pub fn first_wrong_lines_are_refused()
-    ensures { FirstWrongLinesAreRefused }
+/// What a text gives is what the grammar says of its lines: the network that they are, or the refusal
+/// of the first line with which no network goes on, or of what is missing at the end.
+pub fn texts_are_answered()
+    ensures { TextsAreAnswered }
 {}

@@ -6,7 +6,7 @@
 //! in `specs/Grammar.antt`: which lines are a block, which are a network, and what the first line is
 //! with which no network goes on. `networks_are_read` is the law that each network of the grammar is
 //! the one that is read, and `read_networks_are_derived` that no other is. By
-//! `first_wrong_lines_are_refused` a refusal names the first line with which no network goes on.
+//! `texts_are_answered` every answer, each refusal too, is what the grammar says of the lines.
 //!
 //! ```text
 //! let net = read_net(alloc, b"net 1\ntiles CCCC CCCC CCCC\nprocess p\nmove a o\nend\n")?;
@@ -43,7 +43,7 @@ mod words;
 mod write;
 
 pub use error::NetError;
-pub use laws::{first_wrong_lines_are_refused, networks_are_read, read_networks_are_derived};
+pub use laws::{networks_are_read, read_networks_are_derived, texts_are_answered};
 pub use name::Name;
 pub use path::Path;
 pub use read::read_net;
