@@ -1,6 +1,6 @@
--- What a stack that is read stands for, by the forms of the grammar; and that texts which are read are those forms, with their trees.
+-- What a stack that is read stands for, by the forms of the grammar: row by row.
 use Rattle.std.proofs.Common.{◌≡◌, ℕ, Bool, true, false, List, [], ◌∷◌, ◌++◌, refl, ap, ◌∙◌, sym, subst, append_assoc}
-use Rattle.std.specs.Prelude.{if◌then◌else◌, nat_lt, nat_le, Option, Some, None, Result, Ok, Err}
+use Rattle.std.specs.Prelude.{if◌then◌else◌, nat_le, Option, Some, None}
 use Rattle.lua_syntax.specs.declared.tree.UnaryOp.TheVariants as unary
 use Rattle.lua_syntax.specs.declared.tree.BinaryOp.{BinaryOp}
 use Rattle.lua_syntax.specs.declared.tree.BinaryOp.TheVariants as binary
@@ -12,7 +12,7 @@ use Rattle.lua_syntax.specs.declared.tree.Entry.{Entry}
 use Rattle.lua_syntax.specs.declared.tree.Entry.TheVariants as entry
 use Rattle.lua_syntax.specs.declared.tree.LuaStatement.{LuaStatement}
 use Rattle.lua_syntax.specs.declared.tree.LuaStatement.TheVariants as statement
-use Rattle.lua_syntax.specs.declared.tree.LuaBlock.{LuaBlock, roll-LuaBlock}
+use Rattle.lua_syntax.specs.declared.tree.LuaBlock.{LuaBlock}
 use Rattle.lua_syntax.specs.declared.tree.Arm.{Arm, roll-Arm}
 use Rattle.lua_syntax.specs.declared.kind.Kind.{Kind}
 use Rattle.lua_syntax.specs.declared.kind.Kind.TheVariants as k
@@ -20,7 +20,6 @@ use Rattle.lua_syntax.specs.declared.kind.Role.{Role}
 use Rattle.lua_syntax.specs.declared.kind.Role.TheVariants.{Plain, Math, Table}
 use Rattle.lua_syntax.specs.declared.symbol.Mark.{Mark}
 use Rattle.lua_syntax.specs.declared.symbol.Mark.TheVariants as m
-use Rattle.lua_syntax.specs.declared.symbol.Action.{Action}
 use Rattle.lua_syntax.specs.declared.symbol.Action.TheVariants as a
 use Rattle.lua_syntax.specs.declared.symbol.Symbol.{Symbol}
 use Rattle.lua_syntax.specs.declared.symbol.Symbol.TheVariants as s
@@ -31,9 +30,9 @@ use Rattle.lua_syntax.specs.declared.piece.Token.{Token}
 use Rattle.lua_syntax.specs.Stacks.{top, below}
 use Rattle.lua_syntax.specs.Table as table
 use Rattle.lua_syntax.specs.Table.{row, operand_row, most_open, level, right_level, binary_of}
-use Rattle.lua_syntax.specs.Building.{act, act_expression, act_list, act_statement, act_block, act_item, at_end, nothing_read}
+use Rattle.lua_syntax.specs.Building.{act, act_expression, act_list, act_statement, act_block, act_item, at_end}
 use Rattle.lua_syntax.specs.Language.{with_one_more}
-use Rattle.lua_syntax.specs.Reading.{Reading, Step, Goes, Wrong, Deep, keeps_text, taken, opened, begun_by, by_row, step, by_step, run, tree_of}
+use Rattle.lua_syntax.specs.Reading.{keeps_text, opened}
 use Rattle.lua_syntax.specs.Grammar as f
 use Rattle.lua_syntax.specs.Grammar.{token, Is, is, IsName, name, Without, without, block_of, IsSemicolon, IsExpression, IsOperations, IsOperand, IsNamed, IsLibrarys, IsFunction, AreSuffixes, AreArguments, AreMoreArguments, AreEntries, AreMoreEntries, IsEntry, IsOfName, IsOfDot, IsOfMember, IsOfIndex, IsOfCall, IsLocalValue, IsReturnValue, IsBlock, IsStatement, IsThenBlock, IsDoBlock, AreArms, IsForBody, AreParameters, AreMoreParameters, AreItems}
 

@@ -38,18 +38,22 @@ pub data IsName : List Token → List ℕ → List Token → Type 0 where
 pub data Without : (Kind → Bool) → List Token → Type 0 where
   without : {test : Kind → Bool} {first : Token} {rest : List Token} → test first.kind ≡ false → Without test (first ∷ rest)
 
+-- whether it is `;`
 abbrev pub is_semicolon : Kind → Bool
 is_semicolon k.Semicolon = true
 is_semicolon _ = false
 
+-- whether it is `=`
 abbrev pub is_assign : Kind → Bool
 is_assign k.Assign = true
 is_assign _ = false
 
+-- whether it is `(`
 abbrev pub is_paren : Kind → Bool
 is_paren k.LeftParen = true
 is_paren _ = false
 
+-- whether it is `.`
 abbrev pub is_dot : Kind → Bool
 is_dot k.Dot = true
 is_dot _ = false
@@ -64,6 +68,7 @@ is_suffix _ = false
 abbrev pub calls : Role → Kind → Bool
 calls role kind = is_paren kind || (is_dot kind && is_library role)
 
+-- whether there is an operator, and it binds at least so tightly
 abbrev pub op_binds : ℕ → Option BinaryOp → Bool
 op_binds least None = false
 op_binds least (Some op) = nat_le least (level op)
@@ -104,6 +109,8 @@ mutual
         binary_of kind ≡ Some op → nat_le least (level op) ≡ true → IsExpression (right_level op) ts right behind →
         IsOperations least (e.Binary op left right line) behind all rest → IsOperations least left (token kind line text ∷ ts) all rest
 
+  -- what stands between binary operators; `not`, `-` and `#` bind more tightly than these. A name may have members and indexes
+  -- behind it, and parentheses are no part of the tree
   pub data IsOperand : List Token → Expr → List Token → Type 0 where
     nil : {ts rest : List Token} → Is k.Nil ts rest → IsOperand ts e.Nil rest
     yes : {ts rest : List Token} → Is k.True ts rest → IsOperand ts e.True rest
@@ -130,6 +137,7 @@ mutual
     librarys : {role name_role : Role} {dot_line line : ℕ} {library a : Expr} {text : List ℕ} {ts rest : List Token} →
         IsFunction role dot_line line library text ts a rest → IsLibrarys role dot_line library (token (k.Name name_role) line text ∷ ts) a rest
 
+  -- behind a library's name, a dot and a name, with the lines of both: a call of the library's function, or a member
   pub data IsFunction : Role → ℕ → ℕ → Expr → List ℕ → List Token → Expr → List Token → Type 0 where
     math_call : {dot_line line : ℕ} {library : Expr} {text : List ℕ} {ts inner rest : List Token} {args : List Expr} → Is k.LeftParen ts inner → AreArguments inner args rest →
         IsFunction Math dot_line line library text ts (e.MathCall text args line) rest
@@ -149,6 +157,7 @@ mutual
     no_arguments : {ts rest : List Token} → Is k.RightParen ts rest → AreArguments ts [] rest
     arguments : {ts behind rest : List Token} {a : Expr} {more : List Expr} → IsExpression 1 ts a behind → AreMoreArguments behind more rest → AreArguments ts (a ∷ more) rest
 
+  -- the same behind an argument
   pub data AreMoreArguments : List Token → List Expr → List Token → Type 0 where
     last_argument : {ts rest : List Token} → Is k.RightParen ts rest → AreMoreArguments ts [] rest
     another : {ts inner behind rest : List Token} {a : Expr} {more : List Expr} → Is k.Comma ts inner → IsExpression 1 inner a behind → AreMoreArguments behind more rest → AreMoreArguments ts (a ∷ more) rest
@@ -158,11 +167,13 @@ mutual
     no_entries : {ts rest : List Token} → Is k.RightBrace ts rest → AreEntries ts [] rest
     entries : {ts behind rest : List Token} {one : Entry} {more : List Entry} → IsEntry ts one behind → AreMoreEntries behind more rest → AreEntries ts (one ∷ more) rest
 
+  -- the same behind an entry
   pub data AreMoreEntries : List Token → List Entry → List Token → Type 0 where
     last_entry : {ts rest : List Token} → Is k.RightBrace ts rest → AreMoreEntries ts [] rest
     comma : {ts inner rest : List Token} {more : List Entry} → Is k.Comma ts inner → AreEntries inner more rest → AreMoreEntries ts more rest
     semicolon : {ts inner rest : List Token} {more : List Entry} → Is k.Semicolon ts inner → AreEntries inner more rest → AreMoreEntries ts more rest
 
+  -- a value, a value with its name, or a value with its key in brackets
   pub data IsEntry : List Token → Entry → List Token → Type 0 where
     value : {ts rest : List Token} {a : Expr} → IsExpression 1 ts a rest → IsEntry ts (entry.Value a) rest
     named : {ts inner behind rest : List Token} {text : List ℕ} {a : Expr} → IsName ts text inner → Is k.Assign inner behind → IsExpression 1 behind a rest → IsEntry ts (entry.Named text a) rest
@@ -219,10 +230,12 @@ mutual
 abbrev pub block_of : List LuaStatement → LuaBlock
 block_of statements = roll-LuaBlock (record { statements = statements })
 
+-- `=` and a value, or nothing
 pub data IsLocalValue : List Token → Option Expr → List Token → Type 0 where
   local_value : {ts inner rest : List Token} {a : Expr} → Is k.Assign ts inner → IsExpression 1 inner a rest → IsLocalValue ts (Some a) rest
   no_local_value : {ts : List Token} → Without is_assign ts → IsLocalValue ts None ts
 
+-- a value, or nothing
 pub data IsReturnValue : List Token → Option Expr → List Token → Type 0 where
   return_value : {ts rest : List Token} {a : Expr} → IsExpression 1 ts a rest → IsReturnValue ts (Some a) rest
   no_return_value : {ts : List Token} → Without begins_expression ts → IsReturnValue ts None ts
@@ -235,6 +248,7 @@ mutual
         IsBlock in_loop ts (s ∷ more) rest
     returned : {in_loop : Bool} {ts inner behind rest : List Token} {value : Option Expr} → Is k.Return ts inner → IsReturnValue inner value behind → IsSemicolon behind rest → IsBlock in_loop ts (statement.Return value ∷ []) rest
 
+  -- a statement but `return`; `break` only where a loop stands around
   pub data IsStatement : Bool → List Token → LuaStatement → List Token → Type 0 where
     local_statement : {in_loop : Bool} {ts inner behind rest : List Token} {text : List ℕ} {value : Option Expr} → Is k.Local ts inner → IsName inner text behind → IsLocalValue behind value rest → IsStatement in_loop ts (statement.Local text value) rest
     of_name : {in_loop : Bool} {role : Role} {line : ℕ} {text : List ℕ} {ts rest : List Token} {s : LuaStatement} → IsOfName role line text ts s rest → IsStatement in_loop (token (k.Name role) line text ∷ ts) s rest
@@ -251,9 +265,11 @@ mutual
     do_statement : {in_loop : Bool} {ts inner behind rest : List Token} {body : List LuaStatement} → Is k.Do ts inner → IsBlock in_loop inner body behind → Is k.End behind rest → IsStatement in_loop ts (statement.Do (block_of body)) rest
     break_statement : {ts rest : List Token} → Is k.Break ts rest → IsStatement true ts statement.Break rest
 
+  -- `then` and a block
   pub data IsThenBlock : Bool → List Token → List LuaStatement → List Token → Type 0 where
     then_block : {in_loop : Bool} {ts inner rest : List Token} {body : List LuaStatement} → Is k.Then ts inner → IsBlock in_loop inner body rest → IsThenBlock in_loop ts body rest
 
+  -- `do` and a block of a loop
   pub data IsDoBlock : List Token → List LuaStatement → List Token → Type 0 where
     do_block : {ts inner rest : List Token} {body : List LuaStatement} → Is k.Do ts inner → IsBlock true inner body rest → IsDoBlock ts body rest
 
@@ -278,6 +294,7 @@ mutual
     no_parameters : {ts rest : List Token} → Is k.RightParen ts rest → AreParameters ts [] rest
     parameters : {ts behind rest : List Token} {text : List ℕ} {more : List (List ℕ)} → IsName ts text behind → AreMoreParameters behind more rest → AreParameters ts (text ∷ more) rest
 
+  -- the same behind a name
   pub data AreMoreParameters : List Token → List (List ℕ) → List Token → Type 0 where
     last_parameter : {ts rest : List Token} → Is k.RightParen ts rest → AreMoreParameters ts [] rest
     another_parameter : {ts inner behind rest : List Token} {text : List ℕ} {more : List (List ℕ)} → Is k.Comma ts inner → IsName inner text behind → AreMoreParameters behind more rest → AreMoreParameters ts (text ∷ more) rest

@@ -1,5 +1,6 @@
 -- The language of the table, without a bound on how deep it nests: which tokens a stack of symbols derives. The count of
--- what is open is carried along since symbols keep it, and nothing is refused for it.
+-- what is open is carried along since symbols keep it, and nothing is refused for it. All that is derived is a chunk of the
+-- grammar (`Grammar.antt`).
 use Rattle.std.specs.Prelude.{◌≡◌, ℕ, ◌+◌, List, [], ◌∷◌, ◌++◌, Result, Ok, Err}
 use Rattle.lua_syntax.specs.declared.symbol.Action.{Action}
 use Rattle.lua_syntax.specs.declared.symbol.Symbol.{Symbol}
@@ -27,6 +28,7 @@ pub data Derives : List Symbol → Building → List Token → Type 0 where
   takes : (symbol : Symbol) (stack body : List Symbol) (parts : Building) (token : Token) (tokens : List Token) →
       row symbol parts.opened token.kind token.line ≡ Takes body →
       Derives (body ++ stack) (keeps_text token.kind token.text parts) tokens → Derives (symbol ∷ stack) parts (token ∷ tokens)
+  -- the same for a token that opens something
   opens : (symbol : Symbol) (stack body : List Symbol) (parts : Building) (token : Token) (tokens : List Token) →
       row symbol parts.opened token.kind token.line ≡ Opens body →
       Derives (body ++ stack) (keeps_text token.kind token.text (with_one_more parts)) tokens → Derives (symbol ∷ stack) parts (token ∷ tokens)
@@ -34,6 +36,7 @@ pub data Derives : List Symbol → Building → List Token → Type 0 where
   begins : (symbol : Symbol) (stack behind body : List Symbol) (parts : Building) (token : Token) (tokens : List Token) →
       row symbol parts.opened token.kind token.line ≡ Begins behind → operand_row parts.opened token.kind token.line ≡ Takes body →
       Derives (body ++ (behind ++ stack)) (keeps_text token.kind token.text parts) tokens → Derives (symbol ∷ stack) parts (token ∷ tokens)
+  -- an operand begins with a token that opens something
   begins_open : (symbol : Symbol) (stack behind body : List Symbol) (parts : Building) (token : Token) (tokens : List Token) →
       row symbol parts.opened token.kind token.line ≡ Begins behind → operand_row parts.opened token.kind token.line ≡ Opens body →
       Derives (body ++ (behind ++ stack)) (keeps_text token.kind token.text (with_one_more parts)) tokens → Derives (symbol ∷ stack) parts (token ∷ tokens)

@@ -1,7 +1,7 @@
--- The grammar, as the table of a parser that one token decides: a row is what becomes of a symbol (a terminal, a part of the
--- grammar, or something to make) before a token. It says what becomes of a symbol before a token: the token is taken and
--- symbols are left to come, or the symbol ends there, or the token can't come. A row that opens takes a token
--- that opens something. What is made of the parts stands between the symbols.
+-- How a text is read: the table of a parser that one token decides. A row is what becomes of a symbol (a terminal, a part of the
+-- grammar, or something to make) before a token: the token is taken and symbols are left to come, or an expression begins
+-- with it, or the symbol ends there, or the token can't come. A row that opens takes a token that opens something. What is made
+-- of the parts stands between the symbols. The grammar that is read so stands in `Grammar.antt`.
 --
 -- Open are: a block, from the word or the bracket before it to its end; a grouping and a constructor, up to the closing bracket;
 -- an operator, a dot, the bracket of an index and of a call, up to the end of what stands around: the grouping, the index, the
@@ -27,7 +27,7 @@ use Rattle.lua_syntax.specs.declared.symbol.Row.TheVariants.{Takes, Opens, Begin
 abbrev pub most_open : ℕ
 most_open = 64
 
--- how many are open with one more; past the most that may be open all counts are one
+-- how many are open with one more; no more is counted than one past the most that may be open
 abbrev pub inside : ℕ → ℕ
 inside opened = min opened most_open + 1
 

@@ -4,8 +4,9 @@
 //! wrong with it and on which line: `Syntax` names a token that can't come where it stands, or the last
 //! line where more had to come, and `TooDeep` a token that would open one construct more than 64.
 //! The layer above, which evaluates the tree, relies on this: the tree is `tree_of` of the bytes, a
-//! definition in `specs/Reading.antt`. `laws` adds that nothing behind the token that `Syntax` names could
-//! make the text a chunk.
+//! definition in `specs/Reading.antt`, and it is the one that the grammar gives for the tokens, form by form
+//! (`specs/Grammar.antt`). `laws` says that, and that the token that `Syntax` names is the first with which no
+//! chunk goes on: some chunk begins with what stands before it.
 //!
 //! ```text
 //! let chunk = parse(alloc, b"function f() return math.floor(7 / 2) end")?;
