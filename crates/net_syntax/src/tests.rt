@@ -1,5 +1,5 @@
 //! Texts that are networks, and texts that aren't.
-use crate::{Block, Name, NetError, Path, Statement, Test, Var, read_net};
+use crate::{Block, Name, NetError, Path, Statement, Test, Var, read_net, write_net};
 use std::alloc::Global;
 use std::test::Fail;
 
@@ -129,5 +129,19 @@ fn a_tree_is_built_statement_by_statement(rt: HostRuntime) -> Result<(), Fail> {
     assert!(&rt; path.push(9));
     assert_eq!(&rt; path.len(), 1);
     assert_eq!(&rt; path.at(0), 9);
+    Ok(())
+}
+
+#[test]
+fn a_network_is_written_as_its_canonical_text(rt: HostRuntime) -> Result<(), Fail> {
+    let alloc = rt.alloc();
+    let text: &[u8] =
+        b"net 1\ntiles CCCC CMDC CCCC\ninput a at 1\noutput o at 1 via 5 9\nchannel c via\nprocess p at 1\nif x >= 0\nput o -7\nelse\nmove a o\nend\nwhile y != 0\ncount x\nend\nend\nend\n";
+    let net = read_net(alloc, text)?;
+    assert_eq!(&rt; write_net(alloc, &net)?.as_slice(), text);
+    let process = net.processes.get(0).ok_or("a process")?;
+    let copy = process.body.copy(alloc)?;
+    assert_eq!(&rt; copy.len(), 2);
+    assert_eq!(&rt; copy.line(1), 12);
     Ok(())
 }
