@@ -1,0 +1,13 @@
+//! Laws of cycles.
+ghost use Rattle.tis_clock.specs.Laws.{CyclesAreLegal, RunsAreLegal, RestHasNoCycle};
+
+/// The events of a cycle, and of many, are a legal order, which leads to the state after them.
+pub fn cycles_are_legal()
+    ensures cycle { CyclesAreLegal }
+    ensures run { RunsAreLegal }
+{}
+
+/// A cycle has no event exactly at rest.
+pub fn rest_has_no_cycle()
+    ensures { RestHasNoCycle }
+{}
