@@ -1,18 +1,16 @@
 -- Worked examples of cycles.
-use Rattle.std.proofs.Common.{◌≡◌, ℕ, pos, true, false, Some, None, List, [], ◌∷◌, ◌++◌, length, replicate, refl}
-use Rattle.tis_base.specs.declared.tiles.Dir.TheVariants.{Up, Down, Left, Right}
-use Rattle.tis_base.specs.declared.tiles.TileKind.TheVariants.{Compute, Memory}
+use Rattle.std.proofs.Common.{◌≡◌, pos, false, List, [], ◌∷◌, replicate, refl}
+use Rattle.tis_base.specs.declared.tiles.Dir.TheVariants.{Up, Down}
+use Rattle.tis_base.specs.declared.tiles.TileKind.TheVariants.{Compute}
 use Rattle.tis_asm.specs.declared.instr.Source.{Source}
 use Rattle.tis_asm.specs.declared.instr.Source.TheVariants as from
 use Rattle.tis_asm.specs.declared.instr.Dest.{Dest}
 use Rattle.tis_asm.specs.declared.instr.Dest.TheVariants as to
 use Rattle.tis_asm.specs.declared.instr.Instr.TheVariants.{Mov}
 use Rattle.tis_asm.specs.declared.program.MarkedInstr.{MarkedInstr}
-use Rattle.tis_grid.specs.declared.event.Event.{Event}
-use Rattle.tis_grid.specs.declared.event.Event.TheVariants.{Local, Meet, In, Out, Push, Pop}
+use Rattle.tis_grid.specs.declared.event.Event.TheVariants.{Meet, In, Out}
 use Rattle.tis_grid.specs.declared.puzzle.OutKind.TheVariants.{Stream}
-use Rattle.tis_grid.specs.Puzzle.{Puzzle}
-use Rattle.tis_grid.specs.State.{Grid, State, outs, start}
+use Rattle.tis_grid.specs.State.{Grid, outs, start}
 use Rattle.tis_grid.specs.Choices.{enabled_events}
 use Rattle.tis_clock.specs.Cycle.{cycle_events, cycles_events, after_cycles}
 

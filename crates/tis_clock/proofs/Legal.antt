@@ -40,10 +40,10 @@ writers_choose grid before now tile event is =
 
 module _ (grid : Grid) where
   -- an event that can happen leads to the state behind it
-  step_leads : (state : State) (event : Event) (events : List Event) → is_enabled grid state event ≡ true → after grid state (event ∷ events) ≡ after grid (after_event grid state event) events
+  pub step_leads : (state : State) (event : Event) (events : List Event) → is_enabled grid state event ≡ true → after grid state (event ∷ events) ≡ after grid (after_event grid state event) events
   step_leads state event events is = ap (λ (enabled : Bool). option_and_then (λ next. after grid next events) (cond enabled (Some (after_event grid state event)) None)) is
 
-  in_turn_leads : (choose : State → ℕ → Option Event) → ChoosesEnabled grid choose → (tiles : List ℕ) (now : State) → after grid now (in_turn grid choose now tiles) ≡ Some (state_after grid now (in_turn grid choose now tiles))
+  pub in_turn_leads : (choose : State → ℕ → Option Event) → ChoosesEnabled grid choose → (tiles : List ℕ) (now : State) → after grid now (in_turn grid choose now tiles) ≡ Some (state_after grid now (in_turn grid choose now tiles))
   in_turn_leads choose chooses [] now = refl
   in_turn_leads choose chooses (tile ∷ tiles) now =
       let rest : State → List Event = λ next. in_turn grid choose next tiles in
@@ -71,12 +71,12 @@ cycles_are_legal grid state =
     let middle = state_after grid state readers in
     let writers = second_half grid state middle in
     leads_then grid readers writers state middle (state_after grid middle writers)
-        (in_turn_leads grid (reads_or_steps grid state) (readers_choose grid state) (all_tiles grid) state)
-        (in_turn_leads grid (gives_out grid state) (writers_choose grid state) (all_tiles grid) middle)
+    (in_turn_leads grid (reads_or_steps grid state) (readers_choose grid state) (all_tiles grid) state)
+    (in_turn_leads grid (gives_out grid state) (writers_choose grid state) (all_tiles grid) middle)
     ∙ ap Some (sym (after_both grid readers writers state))
 
 pub runs_are_legal : RunsAreLegal
 runs_are_legal grid state zero = refl
 runs_are_legal grid state (suc more) =
     leads_then grid (cycle_events grid state) (cycles_events grid (after_cycle grid state) more) state (after_cycle grid state) (after_cycles grid (after_cycle grid state) more)
-        (cycles_are_legal grid state) (runs_are_legal grid (after_cycle grid state) more)
+    (cycles_are_legal grid state) (runs_are_legal grid (after_cycle grid state) more)

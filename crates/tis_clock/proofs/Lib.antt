@@ -1,3 +1,4 @@
 pub mod Legal
 pub mod Resting
+pub mod Once
 mod Examples

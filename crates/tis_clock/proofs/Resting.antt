@@ -1,22 +1,22 @@
 -- A cycle has no event exactly at rest.
-use Rattle.std.proofs.Common.{◌≡◌, ℕ, ◌<◌, ℤ, true, false, cond, List, [], ◌∷◌, ◌++◌, length, map, Option, Some, None, inl, inr, refl, sym, ap, subst, ◌∙◌, arith, eq-eqb}
-use Rattle.std.specs.Prelude.{Bool, ◌&&◌, ◌==◌, flat_map, filter}
+use Rattle.std.proofs.Common.{◌≡◌, ℕ, ℤ, true, false, cond, List, [], ◌∷◌, ◌++◌, length, Option, Some, None, inl, inr, refl, sym, ap, subst, ◌∙◌, arith, eq-eqb}
+use Rattle.std.specs.Prelude.{Bool, ◌&&◌, ◌==◌, flat_map}
 use Rattle.std.specs.List.{find, range_with_len}
 use Rattle.std.proofs.lemmas.Bool.{and_from}
 use Rattle.tis_base.specs.Tiles.{IsCompute, opposite}
 use Rattle.tis_base.specs.declared.tiles.Dir.{Dir}
 use Rattle.tis_base.specs.declared.tiles.Dir.TheVariants.{Left, Right, Up, Down}
-use Rattle.tis_asm.specs.Node.{Node, Mode, Ready, Writing, Toward, One, Any, can_local_in, wants_in, offers_in, instr_at}
+use Rattle.tis_asm.specs.Node.{Node, Mode, Ready, Writing, can_local_in, wants_in, offers_in, instr_at}
 use Rattle.tis_asm.specs.declared.instr.Instr.{Instr}
 use Rattle.tis_grid.specs.declared.event.Event.{Event}
 use Rattle.tis_grid.specs.declared.event.Event.TheVariants.{Local, Meet, In, Out, Push, Pop}
 use Rattle.tis_grid.specs.State.{Grid, IsGrid, State, node_at}
-use Rattle.tis_grid.specs.Events.{program_of, next_tile, bottom_of, is_enabled, IsEnabled}
+use Rattle.tis_grid.specs.Events.{program_of, next_tile, bottom_of, is_enabled}
 use Rattle.tis_grid.specs.Orders.{IsAtRest}
 use Rattle.tis_grid.proofs.Enabled.{Enables, enabled_parts, Wants, Offers}
 use Rattle.tis_grid.proofs.Listed.{IsIn, in_left, in_right, in_map, in_flat_map, in_range, in_filter}
 use Rattle.tis_grid.proofs.Places.{next_back, some_columns, compute_within}
-use Rattle.tis_clock.specs.Cycle.{is_ready, is_writing, directions, from_neighbour, from_above, ways_to_take, ways_of_ready, gives_old, first_way, reads_or_steps, to_below, ways_to_give, gives_out, state_after, and_then, in_turn, all_tiles, first_half, second_half, cycle_events}
+use Rattle.tis_clock.specs.Cycle.{is_ready, is_writing, directions, from_neighbour, ways_to_take, ways_of_ready, gives_old, first_way, reads_or_steps, ways_to_give, gives_out, state_after, and_then, in_turn, all_tiles, first_half, second_half, cycle_events}
 use Rattle.tis_clock.specs.Laws.{RestHasNoCycle}
 use Rattle.tis_clock.proofs.Legal.{ChoosesEnabled, readers_choose, writers_choose}
 
@@ -58,7 +58,7 @@ ready_of_wants : (mode : Mode) (instr : Option Instr) (node : Node) (dir : Dir) 
 ready_of_wants Ready instr node dir is = refl
 ready_of_wants (Writing value toward) instr node dir is = absurd cc
 
-writing_of_offers : (mode : Mode) (dir : Dir) (value : ℤ) → offers_in mode dir ≡ Some value → is_writing mode ≡ true
+pub writing_of_offers : (mode : Mode) (dir : Dir) (value : ℤ) → offers_in mode dir ≡ Some value → is_writing mode ≡ true
 writing_of_offers Ready dir value is = absurd cc
 writing_of_offers (Writing other toward) dir value is = refl
 

@@ -8,7 +8,7 @@ use Rattle.tis_asm.specs.Node.{Mode, Ready, Writing}
 use Rattle.tis_grid.specs.declared.event.Event.{Event}
 use Rattle.tis_grid.specs.declared.event.Event.TheVariants.{Local, Meet, In, Out, Push, Pop}
 use Rattle.tis_grid.specs.State.{Grid, State, node_at}
-use Rattle.tis_grid.specs.Events.{next_tile, bottom_of, is_compute_at, is_enabled, after_event}
+use Rattle.tis_grid.specs.Events.{next_tile, bottom_of, is_enabled, after_event}
 
 -- whether a node is ready, or writes
 abbrev pub is_ready : Mode → Bool

@@ -1,5 +1,5 @@
 -- Laws of cycles, on every grid.
-use Rattle.std.specs.Prelude.{◌≡◌, ◌↔◌, ℕ, ◌≤◌, List, [], length, Some}
+use Rattle.std.specs.Prelude.{◌≡◌, ◌↔◌, ℕ, ◌≤◌, [], length, Some}
 use Rattle.tis_grid.specs.State.{Grid, IsGrid, State}
 use Rattle.tis_grid.specs.Orders.{after, Fits, IsAtRest}
 use Rattle.tis_grid.specs.TileSteps.{steps_of}

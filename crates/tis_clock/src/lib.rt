@@ -3,4 +3,4 @@
 
 mod laws;
 
-pub use laws::{cycles_are_legal, rest_has_no_cycle};
+pub use laws::{cycles_are_legal, rest_has_no_cycle, tiles_act_once};
