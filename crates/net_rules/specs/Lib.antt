@@ -1,0 +1,5 @@
+pub mod Uses
+pub mod Numbers
+pub mod Rules
+pub mod Process
+pub mod Kahn
