@@ -1,1 +1,4 @@
+pub mod Costs
+pub mod Waiting
+pub mod Running
 mod Examples

@@ -3,3 +3,4 @@ pub mod Numbers
 pub mod Rules
 pub mod Process
 pub mod Kahn
+pub mod Sure
