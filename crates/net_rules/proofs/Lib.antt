@@ -1,4 +1,5 @@
 pub mod Costs
 pub mod Waiting
 pub mod Running
+pub mod Rounds
 mod Examples

@@ -218,7 +218,7 @@ module _ (measure : Streams → ℕ) (CanRead : ℕ → Type 0) (counts : (strea
             (whole_count_fits each) (λ is. is) (λ v same. exchanged (is_same_var v var) (changes_in v body) same)
         (count_ran each (surely_reads body) (λ v. changes_in v body) var (exec body) sure.0 (λ s h. block_ran body sure.1 s h) state.fuel state 999 (omega arith) has (variable_is state has var).1)
 
-    block_ran : (block : Block ℕ) → IsSureBlock CanRead block → (state : ProcessState) → HasValues state → Runs state (within_cost (block_cost block)) (surely_reads block) (λ var. changes_in var block) (exec block state)
+    pub block_ran : (block : Block ℕ) → IsSureBlock CanRead block → (state : ProcessState) → HasValues state → Runs state (within_cost (block_cost block)) (surely_reads block) (λ var. changes_in var block) (exec block state)
     block_ran Empty sure state has = ran_not measure CanRead counts state (within_cost 0) (λ var. false) has
     block_ran (Then line statement rest) sure state has =
         let first = exec_statement statement state in
