@@ -2,9 +2,9 @@
 use Rattle.std.proofs.Common.{◌≡◌, ℕ, ◌+◌, ◌==◌, ℤ, pos, negsuc, List, [], ◌∷◌, ◌++◌, replicate, Some, None, refl}
 use Rattle.std.specs.Prelude.{codes, if◌then◌else◌, ◌*◌}
 use Rattle.tis_base.specs.declared.tiles.TileKind.TheVariants.{Compute}
-use Rattle.net_syntax.specs.declared.tree.Var.TheVariants.{X, Y}
-use Rattle.net_syntax.specs.declared.tree.Test.TheVariants.{Zero, NotZero, Positive}
-use Rattle.net_syntax.specs.Tree.{Name, Statement, Get, GetAdd, Put, PutNumber, Move, Add, Sub, Double, Swap, If, While, Count, Block, Empty, Then, PortLine, ChannelLine, ProcessText, Net}
+use Rattle.net_tree.specs.declared.tree.Var.TheVariants.{X, Y}
+use Rattle.net_tree.specs.declared.tree.Test.TheVariants.{Zero, NotZero, Positive}
+use Rattle.net_tree.specs.Tree.{Name, Statement, Get, GetAdd, Put, PutNumber, Move, Add, Sub, Double, Swap, If, While, Count, Block, Empty, Then, PortLine, ChannelLine, ProcessText, Net}
 use Rattle.net_rules.specs.Numbers.{numbered}
 use Rattle.net_rules.specs.Rules.{Unknown, Repeated, SamePlace, ReadTwice, WrittenTwice, CounterChanged, Unread, Unwritten, ReadBeforeWritten, NoSureRead, LoopWithoutRead, JoinAfterSplit, first_broken}
 use Rattle.net_rules.specs.Kahn.{Inputs, kahn_at, steps, bound}

@@ -5,8 +5,8 @@ use Rattle.std.specs.List.{list_any, range_with_len}
 use Rattle.std.proofs.lemmas.Bool.{cases_eq, ltb-true}
 use Rattle.std.proofs.lemmas.List.Sums.{sum_by-cons}
 use Rattle.tis_base.specs.Saturation.{IsValue}
-use Rattle.net_syntax.specs.declared.tree.Var.{Var}
-use Rattle.net_syntax.specs.Tree.{Block}
+use Rattle.net_tree.specs.declared.tree.Var.{Var}
+use Rattle.net_tree.specs.Tree.{Block}
 use Rattle.net_rules.specs.Uses.{surely_reads, reads_in}
 use Rattle.net_rules.specs.Process.{Streams, with_stream, ProcessState, Outcome, Finished, WaitsOn, OutOfFuel, Execution, ended, followed, stepped, begins, exec, round, rounds_within, beginning, process_run, block_cost, cost}
 use Rattle.net_rules.specs.Sure.{changes_in, IsSureBlock}

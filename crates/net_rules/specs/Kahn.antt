@@ -1,7 +1,7 @@
 -- The streams of a network, found process by process in the order of the text. Without feedback that solves the equations that Kahn writes for them.
 use Rattle.std.specs.Prelude.{ℕ, ◌+◌, ◌*◌, ℤ, List, [], ◌∷◌, ◌++◌, length, sum_by, ◌==◌, if◌then◌else◌}
 use Rattle.std.specs.List.{list_any, range_with_len}
-use Rattle.net_syntax.specs.Tree.{Block}
+use Rattle.net_tree.specs.Tree.{Block}
 use Rattle.net_rules.specs.Uses.{reads_in}
 use Rattle.net_rules.specs.Numbers.{NumberedNet, readable_count}
 use Rattle.net_rules.specs.Process.{Streams, Execution, process_run, cost}

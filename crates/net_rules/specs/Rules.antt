@@ -3,8 +3,8 @@ use Rattle.std.specs.Prelude.{◌≡◌, ℕ, ◌+◌, Bool, true, false, ◌||�
 use Rattle.std.specs.List.{list_any, position}
 use Rattle.std.specs.Option.{option_or}
 use Rattle.std.specs.Str.{bytes_eq}
-use Rattle.net_syntax.specs.declared.tree.Var.{Var}
-use Rattle.net_syntax.specs.Tree.{Name, Statement, If, While, Count, Block, Empty, Then, PortLine, ChannelLine, ProcessText, Net}
+use Rattle.net_tree.specs.declared.tree.Var.{Var}
+use Rattle.net_tree.specs.Tree.{Name, Statement, If, While, Count, Block, Empty, Then, PortLine, ChannelLine, ProcessText, Net}
 use Rattle.net_rules.specs.Uses.{read_of, written_of, reads_in, writes_in, changes, surely_reads}
 use Rattle.net_rules.specs.Numbers.{NumberedNet, readable, writable, numbered}
 

@@ -1,8 +1,8 @@
 -- What a statement and a block read, write and change.
 use Rattle.std.specs.Prelude.{Bool, true, false, ◌||◌, ◌&&◌, List, [], ◌∷◌, ◌++◌, Option, Some, None}
-use Rattle.net_syntax.specs.declared.tree.Var.{Var}
-use Rattle.net_syntax.specs.declared.tree.Var.TheVariants.{X, Y}
-use Rattle.net_syntax.specs.Tree.{Statement, Get, GetAdd, GetSub, Put, PutNumber, Move, Set, Add, Sub, Neg, Double, Copy, Swap, If, While, Count, Block, Empty, Then}
+use Rattle.net_tree.specs.declared.tree.Var.{Var}
+use Rattle.net_tree.specs.declared.tree.Var.TheVariants.{X, Y}
+use Rattle.net_tree.specs.Tree.{Statement, Get, GetAdd, GetSub, Put, PutNumber, Move, Set, Add, Sub, Neg, Double, Copy, Swap, If, While, Count, Block, Empty, Then}
 
 -- the name that a statement reads by itself; what its blocks read is theirs
 abbrev pub read_of : {N : Type 0} → Statement N → Option N

@@ -1,4 +1,5 @@
 pub mod Cutting
+pub mod Written
 mod Digits
 mod Counting
 mod Examples
