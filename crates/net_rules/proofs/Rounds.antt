@@ -1,13 +1,11 @@
 -- A process whose rounds surely read comes to wait before its fuel is gone.
-use Rattle.std.proofs.Common.{◌≡◌, ℕ, zero, suc, ◌+◌, ◌-◌, ◌*◌, ◌<◌, ◌≤◌, true, false, cond, Bool, ℤ, List, [], ◌∷◌, length, inl, inr, refl, sym, ap, subst, ◌∙◌, arith, add-mul, one-mul, mul-le-mul_right, eq-eqb, ne_eqb}
-use Rattle.std.specs.Prelude.{nat_lt, All, ◌==◌, ◌||◌, sum_by}
-use Rattle.std.specs.List.{list_any, range_with_len}
-use Rattle.std.proofs.lemmas.Bool.{cases_eq, ltb-true}
-use Rattle.std.proofs.lemmas.List.Sums.{sum_by-cons}
+use Rattle.std.proofs.Common.{◌≡◌, ℕ, zero, suc, ◌+◌, ◌-◌, ◌*◌, ◌<◌, ◌≤◌, true, false, cond, Bool, ℤ, List, ◌∷◌, refl, ap, ◌∙◌, arith, add-mul, one-mul, mul-le-mul_right}
+use Rattle.std.specs.Prelude.{nat_lt, All, ◌||◌}
+use Rattle.std.proofs.lemmas.Bool.{ltb-true}
 use Rattle.tis_base.specs.Saturation.{IsValue}
 use Rattle.net_tree.specs.declared.tree.Var.{Var}
 use Rattle.net_tree.specs.Tree.{Block}
-use Rattle.net_rules.specs.Uses.{surely_reads, reads_in}
+use Rattle.net_rules.specs.Uses.{surely_reads}
 use Rattle.net_rules.specs.Process.{Streams, with_stream, ProcessState, Outcome, Finished, WaitsOn, OutOfFuel, Execution, ended, followed, stepped, begins, exec, round, rounds_within, beginning, process_run, block_cost, cost}
 use Rattle.net_rules.specs.Sure.{changes_in, IsSureBlock}
 use Rattle.net_rules.proofs.Costs.{within_cost, turns_cost, turn_fits, turn_waits, while_fits}

@@ -1,17 +1,17 @@
 -- Each statement, block and round keeps to its cost.
-use Rattle.std.proofs.Common.{◌≡◌, ℕ, zero, suc, ◌+◌, ◌*◌, ◌<◌, ◌≤◌, true, false, cond, Bool, ℤ, pos, negsuc, List, [], ◌∷◌, refl, sym, ap, subst, ◌∙◌, arith}
+use Rattle.std.proofs.Common.{◌≡◌, ℕ, zero, suc, ◌+◌, ◌*◌, ◌≤◌, true, false, cond, Bool, ℤ, pos, negsuc, List, ◌∷◌, refl, sym, ap, subst, ◌∙◌, arith}
 use Rattle.std.specs.Prelude.{◌||◌, ◌&&◌, ◌+ℤ◌, ◌-ℤ◌, ◌≤ℤ◌, neg_ℤ}
 use Rattle.std.proofs.lemmas.Bool.{and_parts}
 use Rattle.std.proofs.lemmas.Int.{ints, clamps}
-use Rattle.tis_base.specs.Saturation.{sat, IsValue}
+use Rattle.tis_base.specs.Saturation.{sat}
 use Rattle.net_tree.specs.declared.tree.Var.{Var}
 use Rattle.net_tree.specs.declared.tree.Var.TheVariants.{X, Y}
 use Rattle.net_tree.specs.Tree.{Statement, Get, GetAdd, GetSub, Put, PutNumber, Move, Set, Add, Sub, Neg, Double, Copy, Swap, If, While, Count, Block, Empty, Then}
 use Rattle.net_rules.specs.Uses.{is_same_var, changes, surely_reads, reads_itself, reads_either_way}
-use Rattle.net_rules.specs.Process.{Streams, with_stream, ProcessState, Outcome, Finished, WaitsOn, OutOfFuel, Execution, ended, followed, and_then, stepped, begins, send, value_in, with_value, becomes, is_positive, passes, loop_within, exec_statement, exec, round, rounds_within, statement_cost, block_cost}
+use Rattle.net_rules.specs.Process.{Streams, with_stream, ProcessState, Outcome, Finished, WaitsOn, OutOfFuel, Execution, ended, followed, and_then, stepped, send, value_in, with_value, becomes, is_positive, passes, loop_within, exec_statement, exec, statement_cost, block_cost}
 use Rattle.net_rules.specs.Sure.{changes_in, changes_inside, IsSureBlock, IsSure}
 use Rattle.net_rules.proofs.Costs.{within_cost, costs_add, cost_before, cost_behind, one_step, turns_cost, turn_fits, turn_waits, while_fits, count_cost, count_fits, count_waits, whole_count_fits}
-use Rattle.net_rules.proofs.Waiting.{HasValues, variable_is, Spent, Ran, ran_not, ran_as, followed_by, begun, setting, becoming, sending, swapping, stepped_has, ran_change, did, did_read, IsChange}
+use Rattle.net_rules.proofs.Waiting.{HasValues, variable_is, Ran, ran_not, ran_as, followed_by, begun, setting, becoming, sending, swapping, stepped_has, ran_change, did, did_read}
 
 -- ---- tests on booleans
 

@@ -1,17 +1,15 @@
 -- How many steps an execution takes: a bound for each time that it waits, whatever it reads.
-use Rattle.std.proofs.Common.{◌≡◌, ℕ, zero, suc, ◌+◌, ◌-◌, ◌*◌, ◌<◌, ◌≤◌, true, false, cond, Bool, ℤ, pos, negsuc, List, [], ◌∷◌, refl, sym, ap, subst, ◌∙◌, arith, add-mul, mul-add, mul-one, one-mul, suc-mul, two-mul, mul-le-mul_left, mul-le-mul_right}
-use Rattle.std.specs.Prelude.{nat_lt, ◌||◌, ◌&&◌, ◌+ℤ◌, ◌-ℤ◌, neg_ℤ, All, ◌==◌}
+use Rattle.std.proofs.Common.{◌≡◌, ℕ, ◌+◌, ◌-◌, ◌<◌, ◌≤◌, true, false, cond, Bool, ℤ, List, [], ◌∷◌, refl, ap, subst, ◌∙◌, arith}
+use Rattle.std.specs.Prelude.{nat_lt, ◌||◌, All, ◌==◌}
 use Rattle.std.proofs.lemmas.Bool.{ltb-true, ltb-false}
 use Rattle.std.proofs.lemmas.List.Elements.{All-head, All-tail}
 use Rattle.tis_base.specs.Saturation.{sat, IsValue}
 use Rattle.tis_base.proofs.Saturating.{sat_is_value}
 use Rattle.net_tree.specs.declared.tree.Var.{Var}
 use Rattle.net_tree.specs.declared.tree.Var.TheVariants.{X, Y}
-use Rattle.net_tree.specs.Tree.{Statement, Get, GetAdd, GetSub, Put, PutNumber, Move, Set, Add, Sub, Neg, Double, Copy, Swap, If, While, Count, Block, Empty, Then}
-use Rattle.net_rules.specs.Uses.{is_same_var, changes, surely_reads, reads_itself, reads_either_way}
-use Rattle.net_rules.specs.Process.{Streams, with_stream, ProcessState, Outcome, Finished, WaitsOn, OutOfFuel, Execution, ended, followed, and_then, stepped, begins, read_first, send, value_in, with_value, becomes, is_positive, passes, loop_within, exec_statement, exec, round, rounds_within, statement_cost, block_cost, cost}
+use Rattle.net_rules.specs.Uses.{is_same_var}
+use Rattle.net_rules.specs.Process.{Streams, with_stream, ProcessState, Outcome, Finished, WaitsOn, OutOfFuel, Execution, ended, followed, stepped, begins, read_first, send, value_in, with_value, becomes}
 use Rattle.net_rules.proofs.Costs.{within_cost}
-use Rattle.net_rules.specs.Sure.{changes_in, changes_inside, IsSureBlock, IsSure}
 
 -- ---- values
 

@@ -1,5 +1,5 @@
 -- What the rules say of one body, by itself: whatever it reads, a round and each loop come to an end or to a read that waits.
-use Rattle.std.specs.Prelude.{◌≡◌, ℕ, Bool, true, false, ◌||◌}
+use Rattle.std.specs.Prelude.{◌≡◌, Bool, true, false, ◌||◌}
 use Rattle.tis_base.specs.Saturation.{IsValue}
 use Rattle.net_tree.specs.declared.tree.Var.{Var}
 use Rattle.net_tree.specs.Tree.{Statement, Get, GetAdd, GetSub, Put, PutNumber, Move, Set, Add, Sub, Neg, Double, Copy, Swap, If, While, Count, Block, Empty, Then}
