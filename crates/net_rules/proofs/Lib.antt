@@ -2,4 +2,6 @@ pub mod Costs
 pub mod Waiting
 pub mod Running
 pub mod Rounds
+pub mod Counted
+pub mod Accepted
 mod Examples

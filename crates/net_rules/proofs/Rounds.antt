@@ -7,14 +7,11 @@ use Rattle.net_tree.specs.declared.tree.Var.{Var}
 use Rattle.net_tree.specs.Tree.{Block}
 use Rattle.net_rules.specs.Uses.{surely_reads}
 use Rattle.net_rules.specs.Process.{Streams, with_stream, ProcessState, Outcome, Finished, WaitsOn, OutOfFuel, Execution, ended, followed, stepped, begins, exec, round, rounds_within, beginning, process_run, block_cost, cost}
+use Rattle.net_rules.specs.Laws.{Waits}
 use Rattle.net_rules.specs.Sure.{changes_in, IsSureBlock}
 use Rattle.net_rules.proofs.Costs.{within_cost, turns_cost, turn_fits, turn_waits, while_fits}
 use Rattle.net_rules.proofs.Waiting.{HasValues, Spent, Ran, ran_as, followed_by, begun, stepped_has}
 use Rattle.net_rules.proofs.Running.{block_ran}
-
--- it waits for a value
-abbrev pub Waits : Execution → Type 0
-Waits execution = (name : ℕ) × (execution.outcome ≡ WaitsOn name)
 
 -- ---- rounds have no end of their own
 

@@ -4,3 +4,4 @@ pub mod Rules
 pub mod Process
 pub mod Kahn
 pub mod Sure
+pub mod Laws

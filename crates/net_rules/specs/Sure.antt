@@ -40,3 +40,19 @@ abbrev mutual
   IsSure CanRead (If var test first second) = IsSureBlock CanRead first × IsSureBlock CanRead second
   IsSure CanRead (While var test body) = (surely_reads body ≡ true) × IsSureBlock CanRead body
   IsSure CanRead (Count var body) = (changes_in var body ≡ false) × IsSureBlock CanRead body
+
+abbrev mutual
+  -- the numbers in a block are values of the machine
+  pub HasValues : {N : Type 0} → Block N → Type 0
+  HasValues Empty = Unit {0}
+  HasValues (Then line statement rest) = StatementHasValues statement × HasValues rest
+
+  pub StatementHasValues : {N : Type 0} → Statement N → Type 0
+  StatementHasValues (PutNumber written number) = IsValue number
+  StatementHasValues (Set var number) = IsValue number
+  StatementHasValues (Add var number) = IsValue number
+  StatementHasValues (Sub var number) = IsValue number
+  StatementHasValues (If var test first second) = HasValues first × HasValues second
+  StatementHasValues (While var test body) = HasValues body
+  StatementHasValues (Count var body) = HasValues body
+  StatementHasValues _ = Unit {0}
