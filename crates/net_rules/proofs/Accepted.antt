@@ -1,15 +1,13 @@
 -- What it says of each body that no rule is broken.
-use Rattle.std.proofs.Common.{◌≡◌, ℕ, zero, suc, ◌+◌, ◌<◌, ◌≤◌, true, false, cond, Bool, List, [], ◌∷◌, ◌++◌, length, map, Option, Some, None, inl, inr, refl, sym, ap, subst, ◌∙◌, arith}
-use Rattle.std.specs.Prelude.{◌||◌, ◌&&◌, ◌⊎◌, not, nat_le, unwrap_or}
-use Rattle.std.specs.List.{list_any, position_or_len}
+use Rattle.std.proofs.Common.{◌≡◌, ℕ, ◌+◌, true, false, cond, Bool, List, [], ◌∷◌, ◌++◌, Option, Some, None, inl, inr, refl, sym, ap, subst, ◌∙◌}
+use Rattle.std.specs.Prelude.{◌||◌, ◌⊎◌, not, nat_le}
+use Rattle.std.specs.List.{list_any}
 use Rattle.std.specs.Option.{option_or}
-use Rattle.std.specs.Str.{bytes_eq}
-use Rattle.tis_base.specs.Saturation.{IsValue}
 use Rattle.net_tree.specs.declared.tree.Var.{Var}
 use Rattle.net_tree.specs.Tree.{Name, Statement, Get, GetAdd, GetSub, Put, PutNumber, Move, Set, Add, Sub, Neg, Double, Copy, Swap, If, While, Count, Block, Empty, Then, ProcessText, Net}
 use Rattle.net_rules.specs.Uses.{read_of, written_of, changes, surely_reads}
 use Rattle.net_rules.specs.Numbers.{readable, writable, numbered}
-use Rattle.net_rules.specs.Rules.{BrokenRule, Unknown, ReadTwice, WrittenTwice, CounterChanged, NoSureRead, LoopWithoutRead, broken_where, used_elsewhere, joins_from, placed_by, by_line, first_among, first_fault, Placed, placed_in, placed_inside, placed_from, statements, isnt_among, is_among, statement_fault, loops_without_read, loop_fault, sure_read_fault, sure_reads_from, first_broken, IsAccepted, declaration_fault, declarations, unused_fault, order_fault}
+use Rattle.net_rules.specs.Rules.{BrokenRule, Unknown, ReadTwice, WrittenTwice, CounterChanged, NoSureRead, LoopWithoutRead, broken_where, used_elsewhere, joins_from, placed_by, by_line, first_among, first_fault, Placed, placed_in, placed_inside, placed_from, statements, isnt_among, is_among, statement_fault, loops_without_read, loop_fault, sure_read_fault, sure_reads_from, IsAccepted, declaration_fault, declarations, unused_fault, order_fault}
 use Rattle.net_rules.specs.Sure.{changes_in, changes_inside, IsSureBlock, IsSure, HasValues, StatementHasValues}
 
 -- ---- what stands in a list
@@ -104,16 +102,16 @@ mutual
   unchanged var (Then line statement rest) process counters is keeps =
       let here : Placed = record { line = line; process = process; counters = counters; statement = statement } in
       neither_false (changes var statement || changes_inside var statement) (changes_in var rest)
-          (neither_false (changes var statement) (changes_inside var statement)
-              (any_false (λ counter. changes counter statement) counters (keeps here (inl refl)) var is)
-              (unchanged_inside var statement process counters is (λ placed among. keeps placed (inr (in_left placed _ _ among)))))
-          (unchanged var rest process counters is (λ placed among. keeps placed (inr (in_right placed (placed_inside process counters statement) _ among))))
+      (neither_false (changes var statement) (changes_inside var statement)
+      (any_false (λ counter. changes counter statement) counters (keeps here (inl refl)) var is)
+      (unchanged_inside var statement process counters is (λ placed among. keeps placed (inr (in_left placed _ _ among)))))
+      (unchanged var rest process counters is (λ placed among. keeps placed (inr (in_right placed (placed_inside process counters statement) _ among))))
 
   unchanged_inside : (var : Var) (statement : Statement Name) (process : ℕ) (counters : List Var) → IsIn var counters → ((placed : Placed) → IsIn placed (placed_inside process counters statement) → KeepsCounters placed) → changes_inside var statement ≡ false
   unchanged_inside var (If v test first second) process counters is keeps =
       neither_false (changes_in var first) (changes_in var second)
-          (unchanged var first process counters is (λ placed among. keeps placed (in_left placed _ _ among)))
-          (unchanged var second process counters is (λ placed among. keeps placed (in_right placed (placed_in process counters first) _ among)))
+      (unchanged var first process counters is (λ placed among. keeps placed (in_left placed _ _ among)))
+      (unchanged var second process counters is (λ placed among. keeps placed (in_right placed (placed_in process counters first) _ among)))
   unchanged_inside var (While v test body) process counters is keeps = unchanged var body process counters is keeps
   unchanged_inside var (Count v body) process counters is keeps = unchanged var body process (v ∷ counters) (inr is) keeps
   unchanged_inside var (Get read v) process counters is keeps = refl
@@ -210,11 +208,11 @@ module _ (net : Net) where
       let reads = neither (broken_where (not (surely_reads first.body)) (NoSureRead number)) (loop_fault (by_line (λ p. p.line) (placed_in number [] first.body))) parts.0 in
       elim is [
         | inl same ↦ subst (λ (p : ProcessText). HasValues p.body → IsSureBody (readable net) p.body) same (λ has. record {
-            reads = is_true (surely_reads first.body) (no_test (not (surely_reads first.body)) (NoSureRead number) reads.0);
-            sure = sure_block (readable net) first.body number [] (λ placed among.
-                let known = good placed (in_left placed _ _ among) in
-                record { known = known.0; keeps = known.1; reads = no_loop (by_line (λ p. p.line) (placed_in number [] first.body)) reads.1 placed (in_order (λ (p : Placed). p.line) placed (placed_in number [] first.body) among) }) has;
-          }) values
+          reads = is_true (surely_reads first.body) (no_test (not (surely_reads first.body)) (NoSureRead number) reads.0);
+          sure = sure_block (readable net) first.body number [] (λ placed among.
+              let known = good placed (in_left placed _ _ among) in
+              record { known = known.0; keeps = known.1; reads = no_loop (by_line (λ p. p.line) (placed_in number [] first.body)) reads.1 placed (in_order (λ (p : Placed). p.line) placed (placed_in number [] first.body) among) }) has;
+        }) values
         | inr later ↦ sure_from (number + 1) processes parts.1 (λ placed among. good placed (in_right placed (placed_in number [] first.body) _ among)) process later values
       ]
     where

@@ -1,5 +1,5 @@
 -- A read takes one value from what a process can read.
-use Rattle.std.proofs.Common.{◌≡◌, ℕ, zero, suc, ◌+◌, ◌<◌, ◌≤◌, true, false, cond, Bool, ℤ, List, [], ◌∷◌, length, inl, inr, refl, sym, ap, subst, ◌∙◌, arith, eq-eqb, ne_eqb}
+use Rattle.std.proofs.Common.{◌≡◌, ℕ, zero, suc, ◌+◌, ◌<◌, ◌≤◌, true, cond, Bool, ℤ, List, ◌∷◌, length, inl, inr, refl, sym, ap, subst, ◌∙◌, arith, eq-eqb, ne_eqb}
 use Rattle.std.specs.Prelude.{◌==◌, sum_by}
 use Rattle.std.specs.List.{range_with_len}
 use Rattle.std.proofs.lemmas.Bool.{cases_eq}
@@ -31,8 +31,13 @@ module _ (counted : ℕ → Bool) (streams : Streams) (name : ℕ) (value : ℤ)
   not_among : (count start : ℕ) → name < start → stand_in counted streams (range_with_len start count) ≡ stand_in counted after (range_with_len start count)
   not_among zero start past = refl
   not_among (suc count) start past =
-      omega (arith, sum_by-cons (standing counted streams) start (range_with_len (start + 1) count), sum_by-cons (standing counted after) start (range_with_len (start + 1) count),
-          other_name start (λ same. omega (arith, past, same)), not_among count (start + 1) (omega (arith, past)))
+      omega (
+        arith,
+        sum_by-cons (standing counted streams) start (range_with_len (start + 1) count),
+        sum_by-cons (standing counted after) start (range_with_len (start + 1) count),
+        other_name start (λ same. omega (arith, past, same)),
+        not_among count (start + 1) (omega (arith, past)),
+      )
 
   pub one_less : counted name ≡ true → (count start : ℕ) → start ≤ name → name < start + count → stand_in counted streams (range_with_len start count) ≡ stand_in counted after (range_with_len start count) + 1
   one_less is zero start from below = absurd (omega (arith, from, below))
@@ -41,8 +46,8 @@ module _ (counted : ℕ → Bool) (streams : Streams) (name : ℕ) (value : ℤ)
       let other = sum_by-cons (standing counted after) start (range_with_len (start + 1) count) in
       elim (cases_eq start name) [
         | inl same ↦
-          let here : standing counted streams start ≡ standing counted after start + 1 = subst (λ n. standing counted streams n ≡ standing counted after n + 1) (sym same) (this_name is) in
-          omega (arith, one, other, here, not_among count (start + 1) (omega (arith, same)))
+            let here : standing counted streams start ≡ standing counted after start + 1 = subst (λ n. standing counted streams n ≡ standing counted after n + 1) (sym same) (this_name is) in
+            omega (arith, one, other, here, not_among count (start + 1) (omega (arith, same)))
         | inr different ↦ omega (arith, one, other, other_name start different, one_less is count (start + 1) (past start different from) (omega (arith, below)))
       ]
     where

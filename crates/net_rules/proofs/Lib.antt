@@ -4,4 +4,5 @@ pub mod Running
 pub mod Rounds
 pub mod Counted
 pub mod Accepted
+pub mod Numbering
 mod Examples

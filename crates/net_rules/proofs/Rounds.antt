@@ -44,11 +44,11 @@ module _ (measure : Streams → ℕ) (CanRead : ℕ → Type 0) (counts : (strea
       let ran = begun measure CanRead counts state (within_cost each) (surely_reads body) changed (exec body) has (block_ran measure CanRead counts body sure _ (stepped_has measure CanRead counts state has)) in
       ran_as measure CanRead counts state (λ read. 1 + turns_cost each read) (λ read. 1 + turns_cost each read) (surely_reads body || false) false (λ v. changed v || changed v) changed _ (λ read. omega arith) (λ no. absurd cc) (λ v is. ap (λ b. b || changed v) is ∙ is)
       (followed_by measure CanRead counts state (λ read. 1 + within_cost each read) (λ read. 1 + turns_cost each read) (λ read. 1 + turns_cost each read) (surely_reads body) false changed changed (rounds_within more body) first.outcome first.state
-          (λ read more some. omega (arith, turn_fits each read more (some reads))) (λ read. omega (arith, turn_waits each read)) ran
-          (λ done. rounds_ran body sure reads more first.state (omega (arith, few, begun_less state (exec body) (block_ran measure CanRead counts body sure _ (stepped_has measure CanRead counts state has)).falls done)) ran.values))
+      (λ read more some. omega (arith, turn_fits each read more (some reads))) (λ read. omega (arith, turn_waits each read)) ran
+      (λ done. rounds_ran body sure reads more first.state (omega (arith, few, begun_less state (exec body) (block_ran measure CanRead counts body sure _ (stepped_has measure CanRead counts state has)).falls done)) ran.values))
 
   -- with more fuel than its cost for each value that it can read, it waits
-  waits : (body : Block ℕ) → IsSureBlock CanRead body → surely_reads body ≡ true → (streams : Streams) → ((name : ℕ) → All IsValue (streams name)) → (fuel : ℕ) → (1 + measure streams) * cost body < fuel → Waits (process_run body streams fuel)
+  pub waits : (body : Block ℕ) → IsSureBlock CanRead body → surely_reads body ≡ true → (streams : Streams) → ((name : ℕ) → All IsValue (streams name)) → (fuel : ℕ) → (1 + measure streams) * cost body < fuel → Waits (process_run body streams fuel)
   waits body sure reads streams values fuel enough =
       let start : ProcessState = beginning streams fuel in
       let has : HasValues start = record { x = (omega arith, omega arith); y = (omega arith, omega arith); unread = values } in

@@ -69,13 +69,13 @@ module _ (measure : Streams → ℕ) (CanRead : ℕ → Type 0) (counts : (strea
       begun measure CanRead counts state (turns_cost each) false changed (λ s. cond (holds s) (and_then (body s) rest) (ended Finished s)) has
       (elim (holds after) as (λ b. Runs after (turns_cost each) false changed (cond b (and_then (body after) rest) (ended Finished after))) [
         | true ↦
-          let ran = is after has_after in
-          let within : (body after).state.fuel ≤ more = omega (arith, few, ran.falls) in
-          ran_as measure CanRead counts after (turns_cost each) (turns_cost each) (true || false) false (λ var. changed var || changed var) changed (and_then (body after) rest)
-              (λ read. omega arith) (λ no. absurd cc) (once changed)
-          (followed_by measure CanRead counts after (within_cost each) (λ read. 1 + turns_cost each read) (turns_cost each) true false changed changed rest (body after).outcome (body after).state
-              (λ read more some. turn_fits each read more (some refl)) (turn_waits each) ran
-              (λ done. while_ran each changed holds body is more (body after).state within ran.values))
+            let ran = is after has_after in
+            let within : (body after).state.fuel ≤ more = omega (arith, few, ran.falls) in
+            ran_as measure CanRead counts after (turns_cost each) (turns_cost each) (true || false) false (λ var. changed var || changed var) changed (and_then (body after) rest)
+            (λ read. omega arith) (λ no. absurd cc) (once changed)
+            (followed_by measure CanRead counts after (within_cost each) (λ read. 1 + turns_cost each read) (turns_cost each) true false changed changed rest (body after).outcome (body after).state
+            (λ read more some. turn_fits each read more (some refl)) (turn_waits each) ran
+            (λ done. while_ran each changed holds body is more (body after).state within ran.values))
         | false ↦ ran_not measure CanRead counts after (turns_cost each) changed has_after
       ])
 
@@ -88,10 +88,10 @@ module _ (measure : Streams → ℕ) (CanRead : ℕ → Type 0) (counts : (strea
       let ran = is state has in
       let down : ProcessState → Execution = λ done. ended Finished (becomes var (value_in var done -ℤ pos 1) done) in
       ran_as measure CanRead counts state (within_cost each) (within_cost each) (sure || false) false (λ other. changed other || is_same_var other var) (λ other. changed other || is_same_var other var) (counted var body state)
-          (λ read. omega arith) (λ no. absurd cc) (λ other same. same)
+      (λ read. omega arith) (λ no. absurd cc) (λ other same. same)
       (followed_by measure CanRead counts state (within_cost each) (λ read. 0) (within_cost each) sure false changed (λ other. is_same_var other var) down (body state).outcome (body state).state
-          (λ read more some. more_read each read more) (λ read. omega arith) ran
-          (λ done. ran_change measure CanRead counts (body state).state (λ other. is_same_var other var) (λ s. becomes var (value_in var s -ℤ pos 1) s) (becoming measure CanRead counts var (λ s. value_in var s -ℤ pos 1)) ran.values))
+      (λ read more some. more_read each read more) (λ read. omega arith) ran
+      (λ done. ran_change measure CanRead counts (body state).state (λ other. is_same_var other var) (λ s. becomes var (value_in var s -ℤ pos 1) s) (becoming measure CanRead counts var (λ s. value_in var s -ℤ pos 1)) ran.values))
     where
       more_read : (cost read more : ℕ) → within_cost cost read + 0 ≤ within_cost cost (read + more)
       more_read cost read more = omega (arith, cost_before cost 0 read, costs_add cost 0 read more)
@@ -132,20 +132,20 @@ module _ (measure : Streams → ℕ) (CanRead : ℕ → Type 0) (counts : (strea
       begun measure CanRead counts state bound false all (λ s. cond (holds s) (and_then (counted var body s) rest) (ended Finished s)) has
       (elim (holds after) as (λ b. Runs after bound false all (cond b (and_then (counted var body after) rest) (ended Finished after))) [
         | true ↦
-          let whole : Execution = counted var body after in
-          let first : Execution = body after in
-          let body_ran = is after has_after in
-          let ran = counted_is each sure changed var body is after has_after in
-          let fewer : whole.state.fuel ≤ more = omega (arith, few, ran.falls) in
-          ran_as measure CanRead counts after bound bound (false || false) false (λ other. all other || all other) all (and_then whole rest)
-              (λ read. omega arith) (λ no. no) (once all)
-          (followed_by measure CanRead counts after (within_cost each) (λ read. 1 + count_cost each turns read) bound false false all all rest whole.outcome whole.state
-              (λ read more some. count_fits each turns read more) (count_waits each turns) ran
-              (λ done.
-                let down = one_down var first.outcome first.state done in
-                let kept = body_ran.keeps var same down.0 in
-                let value : value_in var whole.state ≡ sat (value_in var state -ℤ pos 1) = down.1 ∙ ap (λ v. sat (v -ℤ pos 1)) (kept ∙ same_after state var) in
-                count_ran each sure changed var body same is more whole.state turns fewer ran.values (subst (λ v. v ≤ℤ pos turns) (sym value) (one_less (value_in var state) turns within))))
+            let whole : Execution = counted var body after in
+            let first : Execution = body after in
+            let body_ran = is after has_after in
+            let ran = counted_is each sure changed var body is after has_after in
+            let fewer : whole.state.fuel ≤ more = omega (arith, few, ran.falls) in
+            ran_as measure CanRead counts after bound bound (false || false) false (λ other. all other || all other) all (and_then whole rest)
+            (λ read. omega arith) (λ no. no) (once all)
+            (followed_by measure CanRead counts after (within_cost each) (λ read. 1 + count_cost each turns read) bound false false all all rest whole.outcome whole.state
+            (λ read more some. count_fits each turns read more) (count_waits each turns) ran
+            (λ done.
+            let down = one_down var first.outcome first.state done in
+            let kept = body_ran.keeps var same down.0 in
+            let value : value_in var whole.state ≡ sat (value_in var state -ℤ pos 1) = down.1 ∙ ap (λ v. sat (v -ℤ pos 1)) (kept ∙ same_after state var) in
+            count_ran each sure changed var body same is more whole.state turns fewer ran.values (subst (λ v. v ≤ℤ pos turns) (sym value) (one_less (value_in var state) turns within))))
         | false ↦ ran_not measure CanRead counts after bound all has_after
       ])
 
@@ -198,7 +198,7 @@ module _ (measure : Streams → ℕ) (CanRead : ℕ → Type 0) (counts : (strea
         let other : ℕ = block_cost second in
         let changed : Var → Bool = λ v. changes_in v first || changes_in v second in
         ran_as measure CanRead counts state (λ read. 1 + within_cost (one + other) read) (within_cost (1 + (one + other))) (surely_reads first && surely_reads second) (surely_reads first && surely_reads second) changed changed _
-            (one_step (one + other)) (λ is. is) (λ v same. same)
+        (one_step (one + other)) (λ is. is) (λ v same. same)
         (begun measure CanRead counts state (within_cost (one + other)) (surely_reads first && surely_reads second) changed (λ s. cond (passes test (value_in var s)) (exec first s) (exec second s)) has
         (elim (passes test (value_in var after)) as (λ b. Runs after (within_cost (one + other)) (surely_reads first && surely_reads second) changed (cond b (exec first after) (exec second after))) [
           | true ↦ ran_as measure CanRead counts after (within_cost one) (within_cost (one + other)) (surely_reads first) _ (λ v. changes_in v first) changed (exec first after)
@@ -208,14 +208,14 @@ module _ (measure : Streams → ℕ) (CanRead : ℕ → Type 0) (counts : (strea
         ]))
     statement_ran (While var test body) sure state has =
         ran_as measure CanRead counts state (λ read. 1 + turns_cost (block_cost body) read) (within_cost (2 + 2 * block_cost body)) false false (λ v. changes_in v body) (λ v. changes_in v body) _
-            (while_fits (block_cost body)) (λ is. is) (λ v same. same)
+        (while_fits (block_cost body)) (λ is. is) (λ v same. same)
         (while_ran (block_cost body) (λ v. changes_in v body) (λ s. passes test (value_in var s)) (exec body)
-            (λ s h. ran_as measure CanRead counts s (within_cost (block_cost body)) (within_cost (block_cost body)) (surely_reads body) true (λ v. changes_in v body) (λ v. changes_in v body) (exec body s) (λ read. omega arith) (λ is. sure.0) (λ v same. same) (block_ran body sure.1 s h))
-            state.fuel state (omega arith) has)
+        (λ s h. ran_as measure CanRead counts s (within_cost (block_cost body)) (within_cost (block_cost body)) (surely_reads body) true (λ v. changes_in v body) (λ v. changes_in v body) (exec body s) (λ read. omega arith) (λ is. sure.0) (λ v same. same) (block_ran body sure.1 s h))
+        state.fuel state (omega arith) has)
     statement_ran (Count var body) sure state has =
         let each : ℕ = block_cost body in
         ran_as measure CanRead counts state (λ read. 1 + count_cost each 999 read) (within_cost (1 + 999 * (1 + each))) false false (λ v. changes_in v body || is_same_var v var) (λ v. is_same_var v var || changes_in v body) _
-            (whole_count_fits each) (λ is. is) (λ v same. exchanged (is_same_var v var) (changes_in v body) same)
+        (whole_count_fits each) (λ is. is) (λ v same. exchanged (is_same_var v var) (changes_in v body) same)
         (count_ran each (surely_reads body) (λ v. changes_in v body) var (exec body) sure.0 (λ s h. block_ran body sure.1 s h) state.fuel state 999 (omega arith) has (variable_is state has var).1)
 
     pub block_ran : (block : Block ℕ) → IsSureBlock CanRead block → (state : ProcessState) → HasValues state → Runs state (within_cost (block_cost block)) (surely_reads block) (λ var. changes_in var block) (exec block state)
@@ -224,6 +224,6 @@ module _ (measure : Streams → ℕ) (CanRead : ℕ → Type 0) (counts : (strea
         let first = exec_statement statement state in
         let ran = statement_ran statement sure.0 state has in
         followed_by measure CanRead counts state (within_cost (statement_cost statement)) (within_cost (block_cost rest)) (within_cost (statement_cost statement + block_cost rest))
-            (reads_itself statement || reads_either_way statement) (surely_reads rest) (λ var. changes var statement || changes_inside var statement) (λ var. changes_in var rest) (exec rest) first.outcome first.state
-            (λ read more some. costs_add (statement_cost statement) (block_cost rest) read more) (cost_before (statement_cost statement) (block_cost rest)) ran
-            (λ done. block_ran rest sure.1 first.state ran.values)
+        (reads_itself statement || reads_either_way statement) (surely_reads rest) (λ var. changes var statement || changes_inside var statement) (λ var. changes_in var rest) (exec rest) first.outcome first.state
+        (λ read more some. costs_add (statement_cost statement) (block_cost rest) read more) (cost_before (statement_cost statement) (block_cost rest)) ran
+        (λ done. block_ran rest sure.1 first.state ran.values)

@@ -60,9 +60,13 @@ module _ (measure : Streams → ℕ) (CanRead : ℕ → Type 0) (counts : (strea
   ran_within : (state : ProcessState) (less more : ℕ → ℕ) (sure : Bool) (changed : Var → Bool) (end : Execution) → ((read : ℕ) → less read ≤ more read) → Ran state less sure changed end → Ran state more sure changed end
   ran_within state less more sure changed end within ran =
       record {
-        read = ran.read; left = ran.left; values = ran.values; falls = ran.falls;
+        read = ran.read;
+        left = ran.left;
+        values = ran.values;
+        falls = ran.falls;
         spent = spent_more state.fuel (less ran.read) (more ran.read) end.state.fuel end.outcome (within ran.read) ran.spent;
-        reads = ran.reads; keeps = ran.keeps;
+        reads = ran.reads;
+        keeps = ran.keeps;
       }
 
   -- nothing more
@@ -77,15 +81,23 @@ module _ (measure : Streams → ℕ) (CanRead : ℕ → Type 0) (counts : (strea
       Ran state both (sure || sure_then) (λ var. changed var || changed_then var) (followed outcome middle next)
   followed_by state first second both sure sure_then changed changed_then next (WaitsOn name) middle fits alone ran later =
       record {
-        read = ran.read; left = ran.left; values = ran.values; falls = ran.falls;
+        read = ran.read;
+        left = ran.left;
+        values = ran.values;
+        falls = ran.falls;
         spent = spent_more state.fuel (first ran.read) (both ran.read) middle.fuel (WaitsOn name) (alone ran.read) ran.spent;
-        reads = λ is done. absurd cc; keeps = λ var same done. absurd cc;
+        reads = λ is done. absurd cc;
+        keeps = λ var same done. absurd cc;
       }
   followed_by state first second both sure sure_then changed changed_then next OutOfFuel middle fits alone ran later =
       record {
-        read = ran.read; left = ran.left; values = ran.values; falls = ran.falls;
+        read = ran.read;
+        left = ran.left;
+        values = ran.values;
+        falls = ran.falls;
         spent = spent_more state.fuel (first ran.read) (both ran.read) middle.fuel OutOfFuel (alone ran.read) ran.spent;
-        reads = λ is done. absurd cc; keeps = λ var same done. absurd cc;
+        reads = λ is done. absurd cc;
+        keeps = λ var same done. absurd cc;
       }
   followed_by state first second both sure sure_then changed changed_then next Finished middle fits alone ran later =
       let then = later refl in
@@ -122,16 +134,20 @@ module _ (measure : Streams → ℕ) (CanRead : ℕ → Type 0) (counts : (strea
   begun state bound sure changed next has ran =
       elim (nat_lt 1 state.fuel) as (λ b. nat_lt 1 state.fuel ≡ b → Ran state (λ read. 1 + bound read) sure changed (cond b (next (stepped state)) (ended OutOfFuel state))) [
         | true ↦ λ enough.
-          let more : 1 < state.fuel = ltb-true 1 state.fuel enough in
-          let end : Execution = next (stepped state) in
-          record {
-            read = ran.read; left = ran.left; values = ran.values; falls = omega (arith, ran.falls);
-            spent = one_more state.fuel (bound ran.read) end.state.fuel end.outcome more ran.spent;
-            reads = ran.reads; keeps = λ var same done. ran.keeps var same done ∙ stays var;
-          }
+            let more : 1 < state.fuel = ltb-true 1 state.fuel enough in
+            let end : Execution = next (stepped state) in
+            record {
+              read = ran.read;
+              left = ran.left;
+              values = ran.values;
+              falls = omega (arith, ran.falls);
+              spent = one_more state.fuel (bound ran.read) end.state.fuel end.outcome more ran.spent;
+              reads = ran.reads;
+              keeps = λ var same done. ran.keeps var same done ∙ stays var;
+            }
         | false ↦ λ none.
-          let few : state.fuel ≤ 1 = ltb-false 1 state.fuel none in
-          record { read = 0; left = omega arith; values = has; falls = omega arith; spent = omega (arith, few); reads = λ is done. absurd cc; keeps = λ var same done. absurd cc }
+            let few : state.fuel ≤ 1 = ltb-false 1 state.fuel none in
+            record { read = 0; left = omega arith; values = has; falls = omega arith; spent = omega (arith, few); reads = λ is done. absurd cc; keeps = λ var same done. absurd cc }
       ] refl
     where
       one_more : (fuel bound left : ℕ) (outcome : Outcome) → 1 < fuel → Spent (fuel - 1) bound outcome left → Spent fuel (1 + bound) outcome left
@@ -149,7 +165,10 @@ module _ (measure : Streams → ℕ) (CanRead : ℕ → Type 0) (counts : (strea
       Ran state less sure changed end → Ran state more surely changing end
   ran_as state less more sure surely changed changing end within is_sure is_changed ran =
       record {
-        read = ran.read; left = ran.left; values = ran.values; falls = ran.falls;
+        read = ran.read;
+        left = ran.left;
+        values = ran.values;
+        falls = ran.falls;
         spent = spent_more state.fuel (less ran.read) (more ran.read) end.state.fuel end.outcome (within ran.read) ran.spent;
         reads = λ is done. ran.reads (is_sure is) done;
         keeps = λ var same done. ran.keeps var (is_changed var same) done;

@@ -1,5 +1,5 @@
 -- Laws of accepted networks.
-use Rattle.std.specs.Prelude.{◌≡◌, ℕ, ◌+◌, ◌*◌, ◌<◌, ◌≤◌, ℤ, List, All, Contains}
+use Rattle.std.specs.Prelude.{◌≡◌, ℕ, ◌<◌, All, Contains}
 use Rattle.tis_base.specs.Saturation.{IsValue}
 use Rattle.net_tree.specs.Tree.{Block, ProcessText, Net}
 use Rattle.net_rules.specs.Numbers.{numbered}
