@@ -1,5 +1,5 @@
 -- The grammar as a relation: which tokens are a form, the tree that it gives, and the tokens that stand behind it. A test of the
--- token behind says how far a form goes. How many constructs are open isn't told here.
+-- token behind says how far a form goes. What is open in a form stands in `Nesting.antt`.
 use Rattle.std.specs.Prelude.{◌≡◌, ℕ, ℤ, Bool, true, false, ◌&&◌, ◌||◌, nat_le, List, [], ◌∷◌, Option, Some, None}
 use Rattle.lua_tree.specs.declared.tree.UnaryOp.TheVariants as unary
 use Rattle.lua_tree.specs.declared.tree.BinaryOp.{BinaryOp}
