@@ -28,8 +28,15 @@
 //! No call here reads a save yet, and none tells whether the programs are sound.
 #![tactic(auto)]
 
+mod block;
+mod error;
+mod head;
+mod heads;
 mod laws;
+mod read;
 mod write;
 
+pub use error::SaveError;
 pub use laws::{saves_are_sound, saves_read_back};
+pub use read::read_save;
 pub use write::write_save;

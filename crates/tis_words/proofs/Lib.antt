@@ -1,4 +1,4 @@
 pub mod Cutting
 mod Digits
-mod Counting
+pub mod Counting
 mod Examples
