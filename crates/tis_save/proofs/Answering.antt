@@ -1,17 +1,14 @@
 -- What is tested and read of a text is what its save is.
-use Rattle.std.proofs.Common.{◌≡◌, ℕ, ◌≤◌, List, [], None, Some, Ok, Err, ap, sym, ◌∙◌}
-use Rattle.std.specs.Prelude.{Option, Result}
+use Rattle.std.proofs.Common.{◌≡◌, ℕ, List, [], None, Ok, ap, sym, ◌∙◌}
+use Rattle.std.specs.Prelude.{Option}
 use Rattle.tis_base.specs.Lines.{text_lines}
 use Rattle.tis_base.specs.Tiles.{Tiles}
 use Rattle.tis_asm.specs.Programs.{Programs}
 use Rattle.tis_save.specs.declared.error.SaveError.{SaveError}
-use Rattle.tis_save.specs.Reading.{SaveRefusal, BlockProgram, first_fault, blocks_of, block_programs, compute_count, program_on, programs_where, save_of}
+use Rattle.tis_save.specs.Reading.{SaveRefusal, BlockProgram, first_fault, blocks_of, block_programs, compute_count, programs_where, save_of}
 use Rattle.tis_save.specs.Refusing.{Refuses, refusal_of}
-use Rattle.tis_save.specs.Heads.{HaveSmallHeads}
-use Rattle.tis_save.specs.Soundness.{AreSound}
-use Rattle.tis_save.proofs.HeadLines.{fault_same, right_are_small}
+use Rattle.tis_save.proofs.HeadLines.{fault_same}
 use Rattle.tis_save.proofs.ReadBlocks.{same_refusal}
-use Rattle.tis_save.proofs.Sound.{saves_are_sound}
 
 -- a fault of the lines
 pub lines_refused : (error : SaveError) (text : List ℕ) (tiles : Tiles) (count : ℕ) → count ≡ compute_count tiles → Refuses error (first_fault count [] 1 (text_lines text)) → Refuses error (refusal_of (save_of text tiles))

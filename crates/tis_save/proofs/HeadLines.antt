@@ -13,7 +13,7 @@ use Rattle.tis_save.specs.declared.heads.Heads.{Heads}
 use Rattle.tis_save.specs.declared.error.SaveError.{SaveError}
 use Rattle.tis_save.specs.declared.error.SaveError.TheVariants as cause
 use Rattle.tis_save.specs.Refusing.{Refuses}
-use Rattle.tis_save.specs.Reading.{SaveRefusal, UnknownBlock, RepeatedBlock, StrayCode, BadHead, is_head, number_of_head, block_fault, head_fault, code_fault, line_fault, with_number, below_line, first_fault}
+use Rattle.tis_save.specs.Reading.{SaveRefusal, UnknownBlock, RepeatedBlock, StrayCode, is_head, number_of_head, block_fault, head_fault, code_fault, line_fault, with_number, below_line, first_fault}
 use Rattle.tis_save.specs.Heads.{flag_fault, flagged_head_fault, flagged_code_fault, flagged_fault, with_flag, flags_below, first_flagged_fault, block_number, HaveSmallHeads}
 
 -- the flags are those of these numbers

@@ -1,5 +1,5 @@
 -- Blocks that are read one after the other are those of all lines.
-use Rattle.std.proofs.Common.{◌≡◌, ℕ, ◌+◌, ◌<◌, Bool, true, false, cond, List, [], ◌∷◌, ◌++◌, map, refl, sym, ap, subst, ◌∙◌, append_assoc, append-nil}
+use Rattle.std.proofs.Common.{◌≡◌, ℕ, Bool, true, false, cond, List, [], ◌∷◌, ◌++◌, refl, sym, ap, subst, ◌∙◌, append_assoc, append-nil}
 use Rattle.std.specs.Prelude.{Option, Some, None, unwrap_or, not, Result, Ok, Err}
 use Rattle.std.specs.List.{take_while}
 use Rattle.std.proofs.lemmas.List.Sums.{take_while-cons}
@@ -7,12 +7,11 @@ use Rattle.tis_asm.specs.declared.error.AsmError.{AsmError}
 use Rattle.tis_asm.specs.declared.error.AsmError.TheVariants as code
 use Rattle.tis_asm.specs.declared.program.MarkedInstr.{MarkedInstr}
 use Rattle.tis_asm.specs.Assembling.{AsmRefusal, assembled_lines}
-use Rattle.tis_save.specs.declared.block.ReadBlock.{ReadBlock}
 use Rattle.tis_save.specs.declared.error.SaveError.{SaveError}
 use Rattle.tis_save.specs.declared.error.SaveError.TheVariants as cause
-use Rattle.tis_save.specs.Reading.{SaveRefusal, Asm, BlockProgram, is_head, is_code, number_of_head, with_block, block_programs, blocks_of}
-use Rattle.tis_save.specs.Heads.{block_number, HaveSmallHeads}
-use Rattle.tis_save.specs.Refusing.{RefusesBlock, Refuses, refusal_of, Answers}
+use Rattle.tis_save.specs.Reading.{SaveRefusal, BlockProgram, is_head, is_code, number_of_head, with_block, block_programs, blocks_of}
+use Rattle.tis_save.specs.Heads.{block_number}
+use Rattle.tis_save.specs.Refusing.{RefusesBlock, Refuses, refusal_of}
 use Rattle.tis_asm.specs.Held.{Refuses as RefusesCode}
 use Rattle.tis_save.specs.Blocks.{error_of_block, closed_with, closed, in_front, open_blocks}
 

@@ -1,5 +1,5 @@
 -- The lines of a save are looked at in order, with one flag for each number that a head above may have.
-use Rattle.std.specs.Prelude.{◌≡◌, ℕ, ◌+◌, ◌<◌, Bool, true, false, ◌||◌, List, [], ◌∷◌, Option, Some, None, unwrap_or, nat_le, slice_index_or, slice_set, if◌then◌else◌}
+use Rattle.std.specs.Prelude.{◌≡◌, ℕ, ◌+◌, ◌<◌, true, false, ◌||◌, List, [], ◌∷◌, Option, Some, None, unwrap_or, nat_le, slice_index_or, slice_set, if◌then◌else◌}
 use Rattle.std.specs.Option.{option_or}
 use Rattle.tis_asm.specs.Assembling.{is_blank}
 use Rattle.tis_save.specs.declared.heads.Heads.{Heads}

@@ -1,10 +1,6 @@
-use Rattle.std.proofs.Common.{Some, sym, ap, subst}
-use Rattle.std.specs.Prelude.{Option}
-use Rattle.std.proofs.Common.{ℕ, []}
+use Rattle.std.proofs.Common.{[]}
 use Rattle.tis_asm.specs.Gathering.{assembled_with}
-use Rattle.tis_save.specs.declared.error.SaveError.{SaveError}
-use Rattle.tis_save.specs.Blocks.{blocks_view, closed, error_of_block}
-use Rattle.tis_save.specs.Refusing.{Refuses, refusal_of}
+use Rattle.tis_save.specs.Blocks.{blocks_view}
 use Rattle.tis_save.proofs.ReadBlocks.{close_refused}
 use Rattle.tis_save.proofs.block.close.Goals as goal
 
