@@ -1,5 +1,5 @@
 pub mod Cutting
 pub mod Written
 mod Digits
-mod Counting
+pub mod Counting
 mod Examples
