@@ -1,3 +1,4 @@
+mod Walks
 pub mod Costs
 pub mod Waiting
 pub mod Running

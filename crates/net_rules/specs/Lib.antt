@@ -1,4 +1,5 @@
 pub mod Uses
+pub mod Sizes
 pub mod Numbers
 pub mod Rules
 pub mod Process

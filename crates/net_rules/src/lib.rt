@@ -2,5 +2,7 @@
 #![tactic(auto)]
 
 mod laws;
+mod sure;
 
 pub use laws::processes_wait;
+pub use sure::surely_reads;
