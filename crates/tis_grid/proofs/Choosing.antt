@@ -104,7 +104,7 @@ module _ (grid : Grid) (state : State) where
       flat_map items_of tiles ≡ those_enabled grid state (flat_map events_at (range_with_len 0 count))
   tiles_listed tiles count len each =
       let lists = fill_by_all (λ tile. those_enabled grid state (events_at tile)) (map items_of tiles) count [] (length-map tiles items_of ∙ len)
-        (λ tile below. get_or-map items_of tiles tile (record { items = [] }) [] (omega arith) ∙ each tile below) in
+      (λ tile below. get_or-map items_of tiles tile (record { items = [] }) [] (omega arith) ∙ each tile below) in
       sym (flat_map-map (λ (xs : List Event). xs) items_of tiles)
       ∙ ap (λ (xss : List (List Event)). flat_map (λ (xs : List Event). xs) xss) lists
       ∙ flat_map-map (λ (xs : List Event). xs) (λ tile. those_enabled grid state (events_at tile)) (range_with_len 0 count)

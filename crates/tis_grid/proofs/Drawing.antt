@@ -102,9 +102,9 @@ drew_to_rest grid start state first generator most done is_grid below drew is =
 -- whether none is enabled, by how many are
 pub rest_counts : (grid : Grid) (state : State) (count : ℕ) → IsGrid grid → count ≡ length (enabled_events grid state) → (count ≡ 0 → IsAtRest grid state) × (IsAtRest grid state → count ≡ 0)
 rest_counts grid state count is_grid is = (
-    λ none. (rest_lists_none grid state is_grid).1 (empty (enabled_events grid state) (sym is ∙ none)),
-    λ rest. is ∙ ap (λ (xs : List Event). length xs) ((rest_lists_none grid state is_grid).0 rest),
-  )
+  λ none. (rest_lists_none grid state is_grid).1 (empty (enabled_events grid state) (sym is ∙ none)),
+  λ rest. is ∙ ap (λ (xs : List Event). length xs) ((rest_lists_none grid state is_grid).0 rest),
+)
   where
     -- a list of no length is empty
     empty : (events : List Event) → length events ≡ 0 → events ≡ []

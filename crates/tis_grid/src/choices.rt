@@ -150,7 +150,12 @@ impl Grid {
         self.puzzle();
         let mut tiles = no_events();
         for number in 0..TILES {
-            tiles[number] = self.tile_events(state, Tile { number: number as u8 });
+            tiles[number] = self.tile_events(
+                state,
+                Tile {
+                    number: number as u8,
+                },
+            );
         }
         Choices {
             tiles,

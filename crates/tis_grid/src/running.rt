@@ -83,12 +83,7 @@ impl Grid {
 
     /// Applies the events of the order that is drawn with this seed, until the state is at rest or so many were
     /// applied. Where memory runs out, the state is the one after the first events of that order.
-    pub fn run_seeded(
-        &self,
-        state: &mut State,
-        seed: u64,
-        limit: u64,
-    ) -> Result<Ended, NoMemory>
+    pub fn run_seeded(&self, state: &mut State, seed: u64, limit: u64) -> Result<Ended, NoMemory>
         requires { Fits self.now state.old.state }
         ensures runs { RunsSeeded self.now state.old.state seed limit result state.new.state }
         ensures fits { Fits self.now state.new.state }

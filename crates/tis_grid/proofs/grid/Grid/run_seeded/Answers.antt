@@ -27,5 +27,5 @@ loop-done-preserved c =
     record {
       fits = c.apply.ensures.fits;
       drew = subst (λ (g : Lcg). Drew c.args.self.now c.args.state.now.state (generator_of c.args.seed) c.args.limit (c.loop-done.done + 1) c.apply.new.state.state g) (sym drawn)
-        (subst (λ (s : State). Drew c.args.self.now c.args.state.now.state (generator_of c.args.seed) c.args.limit (c.loop-done.done + 1) s (pcg32 c.loop-done.generator).1) state drew);
+          (subst (λ (s : State). Drew c.args.self.now c.args.state.now.state (generator_of c.args.seed) c.args.limit (c.loop-done.done + 1) s (pcg32 c.loop-done.generator).1) state drew);
     }
