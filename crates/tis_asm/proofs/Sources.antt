@@ -1,9 +1,13 @@
--- The lines of a text are counted, and read one after the other.
-use Rattle.std.proofs.Common.{◌≡◌, ℕ, zero, suc, ◌+◌, ◌-◌, Bool, true, false, cond, List, [], ◌∷◌, ◌++◌, map, length, take, refl, sym, ap, ◌∙◌, arith, append_assoc}
-use Rattle.std.specs.Prelude.{min}
-use Rattle.tis_asm.specs.declared.source_line.SourceLine.{SourceLine as HeldSource}
-use Rattle.tis_asm.specs.LineView.{Source, source_of, source_view}
-use Rattle.tis_asm.specs.Assembling.{is_blank, onto_code, without_blank_end}
+-- The lines of a text are counted and gathered, one after the other.
+use Rattle.std.proofs.Common.{◌≡◌, ℕ, ◌+◌, ◌<◌, ◌≤◌, Bool, true, false, cond, inl, inr, List, [], ◌∷◌, ◌++◌, map, length, take, refl, sym, ap, ◌∙◌, arith, append_assoc, append-nil, length-append}
+use Rattle.std.specs.Prelude.{min, nat_lt, Result, Ok, Err, OnErr}
+use Rattle.std.proofs.lemmas.Bool.{cases_Bool}
+use Rattle.std.proofs.lemmas.List.{take-append-le}
+use Rattle.std.proofs.lemmas.Bool.Decides.{nat_tests}
+use Rattle.tis_asm.specs.LineView.{Source, source_of, sources_read}
+use Rattle.tis_asm.specs.Assembling.{TooManyLines, is_blank, onto_code, without_blank_end, program_where, assembled_lines}
+use Rattle.tis_asm.specs.Gathering.{Gathered, none_gathered, gathered_with, program_behind}
+use Rattle.tis_asm.proofs.Wholes.{first_program, first_are_all}
 
 -- how many lines there are up to the last one that isn't blank, where so many were seen and so many of them count; no more than 16
 abbrev pub counted : ℕ → ℕ → List (List ℕ) → ℕ
@@ -34,23 +38,51 @@ counted_all lines = counted_is 0 0 lines ∙ by_front (without_blank_end lines)
     by_front [] = omega arith
     by_front (line ∷ front) = omega arith
 
--- where nothing is left, all are counted
-pub counted_end : (count index : ℕ) (rest lines : List (List ℕ)) → counted count index rest ≡ counted 0 0 lines → rest ≡ [] → count ≡ min 16 (length (without_blank_end lines))
-counted_end count index rest lines same none = ap (counted count index) (sym none) ∙ same ∙ counted_all lines
+-- ---- lines that are gathered
 
-map_more : {X Y : Type 0} (f : X → Y) (xs : List X) (x : X) → map f (xs ++ x ∷ []) ≡ map f xs ++ f x ∷ []
-map_more f [] x = refl
-map_more f (y ∷ xs) x = ap (λ l. f y ∷ l) (map_more f xs x)
+-- nothing behind fifteen lines is looked at
+fifteen_only : (c : ℕ) (front rest other : List Source) → length front ≡ 15 → first_program c (front ++ rest) ≡ first_program c (front ++ other)
+fifteen_only c front rest other full = elim (cases_Bool (nat_lt 15 c)) [
+  | inl many ↦ ap (λ (b : Bool). cond b (Err TooManyLines) (program_where (sources_read 1 (Ok []) (take c (front ++ rest))))) many ∙ sym (ap (λ (b : Bool). cond b (Err TooManyLines) (program_where (sources_read 1 (Ok []) (take c (front ++ other))))) many)
+  | inr few ↦ ap (λ (l : List Source). cond (nat_lt 15 c) (Err TooManyLines) (program_where (sources_read 1 (Ok []) l))) (take-append-le c front rest (within c (length front) few full) ∙ sym (take-append-le c front other (within c (length front) few full)))
+]
+  where
+    within : (c n : ℕ) → nat_lt 15 c ≡ false → n ≡ 15 → c ≤ n
+    within c n few full = grind (arith, nat_tests)
 
--- one line more
-pub sources_step : (items after : List HeldSource) (source : HeldSource) (left : ℕ) (line : List ℕ) (whole rest : List (List ℕ)) (all : List Source) → after ≡ items ++ source ∷ [] → source_view source ≡ source_of line → whole ≡ line ∷ rest → (left ≡ 0 → ⊥) → map source_view items ++ map source_of (take left whole) ≡ all → map source_view after ++ map source_of (take (left - 1) rest) ≡ all
-sources_step items after source zero line whole rest all after_is source_is whole_is some same = absurd (some refl)
-sources_step items after source (suc left) line whole rest all after_is source_is whole_is some same =
-    let less : suc left - 1 ≡ left = omega arith in
-    ap (λ (n : ℕ). map source_view after ++ map source_of (take n rest)) less
-    ∙ ap (λ (l : List HeldSource). map source_view l ++ map source_of (take left rest)) after_is
-    ∙ ap (λ (l : List Source). l ++ map source_of (take left rest)) (map_more source_view items source)
-    ∙ append_assoc (map source_view items) (source_view source ∷ []) (map source_of (take left rest))
-    ∙ ap (λ (s : Source). map source_view items ++ s ∷ map source_of (take left rest)) source_is
-    ∙ ap (λ (l : List (List ℕ)). map source_view items ++ map source_of (take (suc left) l)) (sym whole_is)
-    ∙ same
+-- what lines that were gathered, and those behind them, spell
+behind_is : (count index : ℕ) (sources : List Source) (lines : List (List ℕ)) → length sources ≡ min 15 index → program_behind (record { count = count; index = index; sources = sources }) lines ≡ first_program (counted count index lines) (sources ++ map source_of lines)
+behind_is count index sources [] held = ap (first_program count) (sym (append-nil sources))
+behind_is count index sources (line ∷ lines) held = elim (cases_Bool (nat_lt index 15)) [
+  | inl more ↦
+      ap (λ (b : Bool). program_behind (record { count = cond (is_blank line) count (min 16 (index + 1)); index = min 16 (index + 1); sources = cond b (sources ++ source_of line ∷ []) sources }) lines) more
+      ∙ behind_is (cond (is_blank line) count (min 16 (index + 1))) (min 16 (index + 1)) (sources ++ source_of line ∷ []) lines (omega (arith, length-append {A = Source}, held, below index more))
+      ∙ ap (first_program (counted count index (line ∷ lines))) (append_assoc sources (source_of line ∷ []) (map source_of lines))
+  | inr full ↦
+      ap (λ (b : Bool). program_behind (record { count = cond (is_blank line) count (min 16 (index + 1)); index = min 16 (index + 1); sources = cond b (sources ++ source_of line ∷ []) sources }) lines) full
+      ∙ behind_is (cond (is_blank line) count (min 16 (index + 1))) (min 16 (index + 1)) sources lines (omega (arith, held, past index full))
+      ∙ fifteen_only (counted count index (line ∷ lines)) sources (map source_of lines) (map source_of (line ∷ lines)) (omega (arith, held, past index full))
+]
+  where
+    below : (a : ℕ) → nat_lt a 15 ≡ true → a < 15
+    below a is = grind (arith, nat_tests)
+
+    past : (a : ℕ) → nat_lt a 15 ≡ false → 15 ≤ a
+    past a is = grind (arith, nat_tests)
+
+-- from the first line on they spell what all lines do
+pub start_is : (lines : List (List ℕ)) → program_behind none_gathered lines ≡ assembled_lines lines
+start_is lines = behind_is 0 0 [] lines (omega arith) ∙ ap (λ (c : ℕ). first_program c (map source_of lines)) (counted_all lines) ∙ first_are_all lines
+
+-- one line more, that is kept and then counted
+pub line_gathered : (old kept : Gathered) (line : List ℕ) (blank : Bool) (n : ℕ) → kept ≡ record old { sources = cond (nat_lt old.index 15) (old.sources ++ source_of line ∷ []) old.sources } → blank ≡ is_blank line → n ≡ min kept.index 15 → record { count = cond blank kept.count (n + 1); index = n + 1; sources = kept.sources } ≡ gathered_with old line
+line_gathered old kept line blank n kept_is blank_is n_is =
+    let counts : n + 1 ≡ min 16 (old.index + 1) = omega (arith, n_is, ap (λ (g : Gathered). g.index) kept_is) in
+    ap (λ (c : ℕ). record { count = cond blank kept.count c; index = c; sources = kept.sources }) counts
+    ∙ ap (λ (g : Gathered). record { count = cond blank g.count (min 16 (old.index + 1)); index = min 16 (old.index + 1); sources = g.sources }) kept_is
+    ∙ ap (λ (b : Bool). record { count = cond b old.count (min 16 (old.index + 1)); index = min 16 (old.index + 1); sources = cond (nat_lt old.index 15) (old.sources ++ source_of line ∷ []) old.sources }) blank_is
+
+-- after an error all is as it was
+pub err_kept : {X E : Type 0} {P : Type 0} (r : Result X E) → P → OnErr r P
+err_kept (Ok x) p = tt
+err_kept (Err e) p = p

@@ -1,6 +1,10 @@
 -- The numbers of a program, and its jumps.
-use Rattle.std.proofs.Common.{◌≡◌, ℕ, zero, suc, List, [], ◌∷◌, ◌++◌, length, take, Bool, true, false, subst, sym, refl, Some}
+use Rattle.std.proofs.Common.{◌≡◌, ℕ, zero, suc, ◌+◌, ◌<◌, ◌≤◌, List, [], ◌∷◌, ◌++◌, length, take, Bool, true, false, subst, sym, ap, ◌∙◌, refl, Some, arith}
 use Rattle.std.specs.Prelude.{slice_get, IsTrue, ◌↔◌}
+use Rattle.std.specs.Bool.{OnTrue}
+use Rattle.std.proofs.lemmas.Bool.{true≢false}
+use Rattle.std.proofs.lemmas.List.{length-take, take_more}
+use Rattle.std.proofs.lemmas.Option.{slice_get_within, get_or_from_slice_get}
 use Rattle.tis_asm.specs.declared.program.MarkedInstr.{MarkedInstr}
 use Rattle.tis_asm.specs.Programs.{InstrHasValue, HasValues, JumpsWithin, JumpWithin, IsSound}
 
@@ -31,3 +35,17 @@ ends_outside false count program index marked outside is found tells =
 pub stays_inside : (inside : Bool) (count : ℕ) (program : List MarkedInstr) (marked : MarkedInstr) → inside ≡ true → count ≡ length program → (IsTrue inside ↔ JumpsWithin count marked.instr) → JumpsWithin (length program) marked.instr
 stays_inside true count program marked here is tells = subst (λ (n : ℕ). JumpsWithin n marked.instr) is (tells.0 refl)
 stays_inside false count program marked here is tells = absurd cc
+
+-- ---- a copy
+
+short_front : (program : List MarkedInstr) (index : ℕ) (marked : MarkedInstr) → slice_get program index ≡ Some marked → length program ≤ 15 → length (take index program) < 15
+short_front program index marked found short = omega (arith, slice_get_within program index marked found, length-take index program)
+
+one_more : (program : List MarkedInstr) (index : ℕ) (marked : MarkedInstr) → slice_get program index ≡ Some marked → take index program ++ marked ∷ [] ≡ take (index + 1) program
+one_more program index marked found =
+    ap (λ (m : MarkedInstr). take index program ++ m ∷ []) (sym (get_or_from_slice_get program index marked marked found)) ∙ sym (take_more program index marked (slice_get_within program index marked found))
+
+-- one instruction more is copied
+pub copied_more : (pushed : Bool) (program old new : List MarkedInstr) (index : ℕ) (marked : MarkedInstr) → slice_get program index ≡ Some marked → length program ≤ 15 → old ≡ take index program → (IsTrue pushed ↔ (length old < 15)) → OnTrue pushed (new ≡ old ++ record { instr = marked.instr; mark = marked.mark } ∷ []) → new ≡ take (index + 1) program
+copied_more true program old new index marked found short is full pushed = pushed ∙ ap (λ (l : List MarkedInstr). l ++ marked ∷ []) is ∙ one_more program index marked found
+copied_more false program old new index marked found short is full pushed = absurd (true≢false (sym (full.1 (subst (λ (l : List MarkedInstr). length l < 15) (sym is) (short_front program index marked found short)))))

@@ -1,8 +1,10 @@
 -- What is read and gathered line after line is the program that all lines spell.
-use Rattle.std.proofs.Common.{◌≡◌, ℕ, ◌+◌, ◌≤◌, Bool, true, false, cond, List, [], ◌∷◌, ◌++◌, map, length, take, refl, sym, ap, ◌∙◌, arith, append_assoc, append-nil}
+use Rattle.std.proofs.Common.{◌≡◌, ℕ, zero, suc, ◌+◌, ◌<◌, ◌≤◌, Bool, true, false, cond, inl, inr, List, [], ◌∷◌, ◌++◌, map, length, take, refl, sym, ap, subst, ◌∙◌, arith, append_assoc, append-nil}
 use Rattle.std.specs.Prelude.{Option, Some, None, Result, Ok, Err, IfOk, is_some, min, nat_lt, ◌||◌}
 use Rattle.std.specs.List.{list_any}
 use Rattle.std.specs.Str.{bytes_eq}
+use Rattle.std.proofs.lemmas.Bool.{cases_Bool}
+use Rattle.std.proofs.lemmas.List.{take-map}
 use Rattle.std.proofs.lemmas.Bool.Decides.{nat_tests}
 use Rattle.tis_asm.specs.declared.instr.Instr.{Instr}
 use Rattle.tis_asm.specs.declared.source_line.SourceLine.{SourceLine as HeldSource}
@@ -112,30 +114,81 @@ front_is (line ∷ lines) = by_rest (without_blank_end lines) (front_is lines)
     by_rest [] is = by_blank (is_blank line)
     by_rest (next ∷ rest) is = ap (λ (l : List (List ℕ)). line ∷ l) is
 
--- what the lines spell is what is read of the first so many
-pub assembled_is : (lines : List (List ℕ)) (count : ℕ) (sources : List HeldSource) → count ≡ min 16 (length (without_blank_end lines)) → count ≤ 15 → map source_view sources ≡ map source_of (take count lines) → assembled_lines lines ≡ program_where (sources_read 1 (Ok []) (map source_view sources))
-assembled_is lines count sources count_is few sources_is =
-    let front = without_blank_end lines in
-    let exact : count ≡ length front = omega (arith, count_is, few) in
-    let short : nat_lt 15 (length front) ≡ false = test (length front) (omega (arith, exact, few)) in
-    let same : map source_view sources ≡ map source_of front = sources_is ∙ ap (λ (n : ℕ). map source_of (take n lines)) exact ∙ ap (map source_of) (front_is lines) in
-    ap (λ (b : Bool). cond b (Err TooManyLines) (program_where (lines_read 1 [] front))) short
-    ∙ ap program_where (sym (in_front_none (lines_read 1 [] front)))
-    ∙ ap program_where (sym (sources_are 1 [] front))
-    ∙ ap (λ (l : List Source). program_where (sources_read 1 (Ok []) l)) (sym same)
+-- what the first so many lines spell, where that are all lines up to the last one that isn't blank
+abbrev pub first_program : ℕ → List Source → Result (List MarkedInstr) AsmRefusal
+first_program count sources = cond (nat_lt 15 count) (Err TooManyLines) (program_where (sources_read 1 (Ok []) (take count sources)))
+
+-- they spell what all lines do
+pub first_are_all : (lines : List (List ℕ)) → first_program (min 16 (length (without_blank_end lines))) (map source_of lines) ≡ assembled_lines lines
+first_are_all lines = by_number (length (without_blank_end lines)) (front_is lines)
   where
-    test : (n : ℕ) → n ≤ 15 → nat_lt 15 n ≡ false
-    test n few = grind (arith, nat_tests)
+    by_number : (n : ℕ) → take n lines ≡ without_blank_end lines → first_program (min 16 n) (map source_of lines) ≡ cond (nat_lt 15 n) (Err TooManyLines) (program_where (lines_read 1 [] (without_blank_end lines)))
+    by_number n is = elim (cases_Bool (nat_lt 15 n)) [
+      | inl many ↦ many_lines n many
+      | inr few ↦ few_lines n few is
+    ]
+      where
+        over : (n : ℕ) → nat_lt 15 n ≡ true → nat_lt 15 (min 16 n) ≡ true
+        over n many = grind (arith, nat_tests)
 
--- a refusal of the lines is one of the text
-pub lines_refused : (lines : List (List ℕ)) (count : ℕ) (sources : List HeldSource) (error : AsmError) → count ≡ min 16 (length (without_blank_end lines)) → count ≤ 15 → map source_view sources ≡ map source_of (take count lines) → Refuses error (sources_read 1 (Ok []) (map source_view sources)) → Refuses error (assembled_lines lines)
-lines_refused lines count sources error count_is few sources_is refuses =
-    same_refusal error (sources_read 1 (Ok []) (map source_view sources)) (assembled_lines lines) (λ refusal found. assembled_is lines count sources count_is few sources_is ∙ ap program_where found) refuses
+        exact : (n : ℕ) → nat_lt 15 n ≡ false → min 16 n ≡ n
+        exact n few = grind (arith, nat_tests)
 
--- what is gathered of the lines is the program of the text
-pub lines_assembled : (lines : List (List ℕ)) (count : ℕ) (sources : List HeldSource) → count ≡ min 16 (length (without_blank_end lines)) → count ≤ 15 → map source_view sources ≡ map source_of (take count lines) → sources_read 1 (Ok []) (map source_view sources) ≡ Ok (map said sources) → instrs_from (map said sources) 1 (Ok []) (map said sources) ≡ assembled_lines lines
-lines_assembled lines count sources count_is few sources_is read =
-    instrs_are (map said sources) 1 [] (map said sources) ∙ in_front_none (program_of (map said sources) 1 (map said sources)) ∙ sym (assembled_is lines count sources count_is few sources_is ∙ ap program_where read)
+        many_lines : (n : ℕ) → nat_lt 15 n ≡ true → first_program (min 16 n) (map source_of lines) ≡ cond (nat_lt 15 n) (Err TooManyLines) (program_where (lines_read 1 [] (without_blank_end lines)))
+        many_lines n many =
+            ap (λ (b : Bool). cond b (Err TooManyLines) (program_where (sources_read 1 (Ok []) (take (min 16 n) (map source_of lines))))) (over n many)
+            ∙ sym (ap (λ (b : Bool). cond b (Err TooManyLines) (program_where (lines_read 1 [] (without_blank_end lines)))) many)
+
+        few_lines : (n : ℕ) → nat_lt 15 n ≡ false → take n lines ≡ without_blank_end lines → first_program (min 16 n) (map source_of lines) ≡ cond (nat_lt 15 n) (Err TooManyLines) (program_where (lines_read 1 [] (without_blank_end lines)))
+        few_lines n few is =
+            ap (λ (c : ℕ). first_program c (map source_of lines)) (exact n few)
+            ∙ ap (λ (l : List Source). cond (nat_lt 15 n) (Err TooManyLines) (program_where (sources_read 1 (Ok []) l))) (take-map source_of n lines ∙ ap (map source_of) is)
+            ∙ ap (λ (r : Result (List CodeLine) AsmRefusal). cond (nat_lt 15 n) (Err TooManyLines) (program_where r)) (sources_are 1 [] (without_blank_end lines) ∙ in_front_none (lines_read 1 [] (without_blank_end lines)))
+
+-- ---- what an assembler answers
+
+min_none : (b : ℕ) → min 0 b ≡ 0
+min_none b = omega arith
+
+min_left : (a : ℕ) → min a 0 ≡ 0
+min_left a = omega arith
+
+min_both : (a b : ℕ) → min (suc a) (suc b) ≡ suc (min a b)
+min_both a b = omega arith
+
+take_min : {X : Type 0} (n : ℕ) (xs : List X) → take (min n (length xs)) xs ≡ take n xs
+take_min zero xs = ap (λ (k : ℕ). take k xs) (min_none (length xs))
+take_min {X = X} (suc n) [] = ap (λ (k : ℕ). take {A = X} k []) (min_left (suc n))
+take_min (suc n) (x ∷ xs) = ap (λ (k : ℕ). take k (x ∷ xs)) (min_both n (length xs)) ∙ ap (λ l. x ∷ l) (take_min n xs)
+
+-- the first so many of the lines that are held
+held_first : (count n : ℕ) (items held : List HeldSource) → n ≡ min count (length items) → held ≡ take n items → take count (map source_view items) ≡ map source_view held
+held_first count n items held n_is is = take-map source_view count items ∙ ap (map source_view) (sym (take_min count items) ∙ ap (λ (k : ℕ). take k items) (sym n_is) ∙ sym is)
+
+few : (count : ℕ) → count ≤ 15 → nat_lt 15 count ≡ false
+few count le = grind (arith, nat_tests)
+
+pub too_many : (count : ℕ) (sources : List Source) → 15 < count → first_program count sources ≡ Err TooManyLines
+too_many count sources lt = ap (λ (b : Bool). cond b (Err TooManyLines) (program_where (sources_read 1 (Ok []) (take count sources)))) (many count lt)
+  where
+    many : (count : ℕ) → 15 < count → nat_lt 15 count ≡ true
+    many count lt = grind (arith, nat_tests)
+
+first_is : (count n : ℕ) (items held : List HeldSource) → count ≤ 15 → n ≡ min count (length items) → held ≡ take n items → first_program count (map source_view items) ≡ program_where (sources_read 1 (Ok []) (map source_view held))
+first_is count n items held le n_is is =
+    ap (λ (b : Bool). cond b (Err TooManyLines) (program_where (sources_read 1 (Ok []) (take count (map source_view items))))) (few count le)
+    ∙ ap (λ (l : List Source). program_where (sources_read 1 (Ok []) l)) (held_first count n items held n_is is)
+
+-- a refusal of the lines is one of the program
+pub lines_refused : (count n : ℕ) (items held : List HeldSource) (error : AsmError) → count ≤ 15 → n ≡ min count (length items) → held ≡ take n items → Refuses error (sources_read 1 (Ok []) (map source_view held)) → Refuses error (first_program count (map source_view items))
+lines_refused count n items held error le n_is is refuses =
+    same_refusal error (sources_read 1 (Ok []) (map source_view held)) (first_program count (map source_view items)) (λ refusal found. first_is count n items held le n_is is ∙ ap program_where found) refuses
+
+-- what is gathered of the lines is the program
+pub lines_assembled : (count n : ℕ) (items held : List HeldSource) (answer : Result (List MarkedInstr) AsmError) → count ≤ 15 → n ≡ min count (length items) → held ≡ take n items → sources_read 1 (Ok []) (map source_view held) ≡ Ok (map said held) → Answers (λ p. p) answer (instrs_from (map said held) 1 (Ok []) (map said held)) → Answers (λ p. p) answer (first_program count (map source_view items))
+lines_assembled count n items held answer le n_is is read =
+    subst (λ (r : Result (List MarkedInstr) AsmRefusal). Answers (λ p. p) answer r)
+    (instrs_are (map said held) 1 [] (map said held) ∙ in_front_none (program_of (map said held) 1 (map said held)) ∙ sym (first_is count n items held le n_is is ∙ ap program_where read))
 
 -- what a call gives of the lines of a text is sound
 pub answer_sound : (lines : List (List ℕ)) (answer : Result (List MarkedInstr) AsmError) → Answers (λ p. p) answer (assembled_lines lines) → IfOk answer (λ p. IsSound p)

@@ -10,3 +10,4 @@ pub mod ReadingBack
 pub mod Soundness
 pub mod Held
 pub mod LineView
+pub mod Gathering

@@ -1,7 +1,6 @@
-//! A text is read as a program.
-ghost use Rattle.std.specs.Prelude.{◌≡◌, ◌≤◌, ◌<◌, ◌+◌, ◌++◌, ◌∷◌, [], length, map, option_map, IfOk, Ok, Some};
-ghost use Rattle.tis_asm.specs.Assembling.{is_named as is_label_of, count_of as count_of_instr, instr_count as count_of_instrs, label_at as label_stands_at, label_number as number_of_label, JumpTo, assembled};
-ghost use Rattle.tis_asm.specs.Programs.{IsSound};
+//! Lines are read as a program.
+ghost use Rattle.std.specs.Prelude.{◌≡◌, ◌≤◌, ◌<◌, ◌+◌, ◌++◌, ◌∷◌, [], length, map, option_map, Ok, Some};
+ghost use Rattle.tis_asm.specs.Assembling.{is_named as is_label_of, count_of as count_of_instr, instr_count as count_of_instrs, label_at as label_stands_at, label_number as number_of_label, JumpTo};
 ghost use Rattle.tis_asm.specs.Held.{Answers};
 ghost use Rattle.tis_asm.specs.LineView.{said, source_view, source_read, stands_in, below, sources_read, instrs_with, instrs_from};
 
@@ -9,10 +8,8 @@ use crate::error::AsmError;
 use crate::instr::{Instr, Jump};
 use crate::line::{NamedInstr, line_of};
 use crate::program::Program;
-use crate::source_line::{SourceLine, code_length, source_lines};
+use crate::source_line::SourceLine;
 use crate::words::is;
-use std::alloc::Global;
-use tis_base::lines;
 
 // Whether a line has this label.
 fn is_named(label: &[u8], source: &SourceLine) -> bool
@@ -100,8 +97,8 @@ fn check_line(above: &[SourceLine], number: usize, source: &SourceLine) -> Resul
     }
 }
 
-// Tells whether each line says something, and has a label of its own.
-fn check_lines(sources: &[SourceLine]) -> Result<(), AsmError>
+/// Tells whether each line says something, and has a label of its own.
+pub(crate) fn check_lines(sources: &[SourceLine]) -> Result<(), AsmError>
     requires { length sources.now ≤ 15 }
     ensures { Answers (λ _. map said sources.now) result (sources_read 1 (Ok []) (map source_view sources.now)) }
 {
@@ -177,8 +174,8 @@ fn push_line(
     }
 }
 
-// The program of the lines.
-fn program_of(sources: &[SourceLine]) -> Result<Program, AsmError>
+/// The program of the lines.
+pub(crate) fn program_of(sources: &[SourceLine]) -> Result<Program, AsmError>
     requires { length sources.now ≤ 15 }
     ensures { Answers (λ p. p) result (instrs_from (map said sources.now) 1 (Ok []) (map said sources.now)) }
 {
@@ -187,18 +184,4 @@ fn program_of(sources: &[SourceLine]) -> Result<Program, AsmError>
         push_line(&mut program, sources, index + 1, source)?;
     }
     Ok(program)
-}
-
-/// The program that a text spells.
-pub fn assemble(alloc: Global, text: &[u8]) -> Result<Program, AsmError>
-    ensures answer { Answers (λ p. p) result (assembled text.now) }
-    ensures sound { IfOk result (λ p. IsSound p) }
-{
-    let count = code_length(lines(text));
-    if 15 < count {
-        return Err(AsmError::TooManyLines);
-    }
-    let sources = source_lines(alloc, lines(text), count)?;
-    check_lines(&sources)?;
-    program_of(&sources)
 }

@@ -6,6 +6,7 @@
 //!   them, each with a mark or without one, and [`Programs`] one program for each tile.
 //! - [`assemble`] reads the program that a text spells, as players write it: letters of either case, comments,
 //!   labels on lines of their own, CRs. [`print`] writes the canonical text of a program.
+//! - [`Assembler`] takes lines one after the other, for a caller whose program is a part of a text.
 //!
 //! # What the crates above use
 //!
@@ -23,8 +24,8 @@
 //!
 //! # What the calls cost
 //!
-//! `assemble` looks at the bytes of a text twice, to find its last line and to read the first fifteen, of which
-//! it takes a copy in capitals. Labels are looked for among at most fifteen lines of at most 80 bytes, which are
+//! `assemble` looks at each line of a text once, and takes a copy in capitals of the first fifteen; of those
+//! behind them it is only told whether they are blank. Labels are looked for among at most fifteen lines of at most 80 bytes, which are
 //! read again each time. `print` takes time that grows with the program. Calls of `Program` take no memory.
 //!
 //! # What it doesn't do
@@ -32,6 +33,7 @@
 //! It runs no program, and doesn't read saves. A mark says nothing of what an instruction does.
 #![tactic(auto)]
 
+mod assembler;
 mod assembling;
 mod error;
 mod instr;
@@ -44,7 +46,7 @@ mod text;
 mod word;
 mod words;
 
-pub use assembling::assemble;
+pub use assembler::{Assembler, assemble};
 pub use error::AsmError;
 pub use instr::{Dest, Instr, Jump, Source};
 pub use laws::{

@@ -46,6 +46,18 @@ impl Program {
         }
     }
 
+    /// The same program once more.
+    pub fn copy(&self) -> Program
+        ensures { result ≡ self.now }
+    {
+        let mut copy = Program::new();
+        for index in 0..self.len() {
+            let marked = self.marked_instr(index);
+            copy.push(marked.instr, marked.mark);
+        }
+        copy
+    }
+
     /// How many instructions there are.
     pub fn len(&self) -> u8
         ensures len { result ≡ length self.now }

@@ -3,3 +3,7 @@ pub mod SaveLines
 pub mod SavesReadBack
 pub mod Examples
 pub mod Sound
+pub mod HeadLines
+pub mod ReadBlocks
+pub mod Placed
+pub mod Answering

@@ -30,8 +30,8 @@ fn push_block(
     Ok(())
 }
 
-// The number of the next block, behind a tile of this kind.
-fn block_after(block: u8, kind: TileKind) -> u8
+/// The number of the next block, behind a tile of this kind.
+pub(crate) fn block_after(block: u8, kind: TileKind) -> u8
     requires { block < 255 }
     ensures { result ≡ block + (if is_compute kind then 1 else 0) }
 {

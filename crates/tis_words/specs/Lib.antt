@@ -1,0 +1,6 @@
+pub mod Words
+pub mod Lines
+pub mod Numerals
+pub mod Letters
+pub mod Parts
+pub mod Reads
