@@ -36,12 +36,10 @@
 
 mod command;
 mod laws;
-mod net_emit;
-mod net_syntax;
 mod run;
 mod status;
 
-pub use laws::{processes_behave, processes_wait, steps_are_bounded, texts_say_one_thing};
+pub use laws::answers_are_one;
 pub use run::tool;
 pub use status::{Refusal, Status, describe};
 
