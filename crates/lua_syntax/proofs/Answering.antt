@@ -1,25 +1,32 @@
--- What each text gives, by the language of the table.
-use Rattle.std.proofs.Common.{◌≡◌, ℕ, Bool, true, false, List, [], ◌∷◌, ◌++◌, refl, ap, sym, subst, append_assoc}
-use Rattle.std.specs.Prelude.{if◌then◌else◌, nat_lt, Result, Ok, Err}
-use Rattle.lua_syntax.specs.declared.tree.Item.{Item}
-use Rattle.lua_syntax.specs.declared.kind.Kind.{Kind}
-use Rattle.lua_syntax.specs.declared.kind.Kind.TheVariants as k
-use Rattle.lua_syntax.specs.declared.symbol.Action.{Action}
-use Rattle.lua_syntax.specs.declared.symbol.Symbol.{Symbol}
-use Rattle.lua_syntax.specs.declared.symbol.Symbol.TheVariants as s
-use Rattle.lua_syntax.specs.declared.symbol.Row.{Row}
-use Rattle.lua_syntax.specs.declared.symbol.Row.TheVariants.{Takes, Opens, Begins, Passes, Refuses}
+-- What each text gives, by the grammar.
+use Rattle.std.proofs.Common.{◌≡◌, ℕ, Bool, true, false, List, [], ◌∷◌, ◌++◌, refl, ap, ◌∙◌, sym, subst, append_assoc}
+use Rattle.std.specs.Prelude.{if◌then◌else◌, nat_lt, length, Result, Ok, Err}
+use Rattle.lua_tree.specs.declared.tree.Item.{Item}
+use Rattle.lua_tokens.specs.declared.kind.Kind.{Kind}
+use Rattle.lua_tokens.specs.declared.kind.Kind.TheVariants as k
+use Rattle.lua_grammar.specs.declared.symbol.Action.{Action}
+use Rattle.lua_grammar.specs.declared.symbol.Symbol.{Symbol}
+use Rattle.lua_grammar.specs.declared.symbol.Symbol.TheVariants as s
+use Rattle.lua_grammar.specs.declared.symbol.Row.{Row}
+use Rattle.lua_grammar.specs.declared.symbol.Row.TheVariants.{Takes, Opens, Begins, Passes, Refuses}
 use Rattle.lua_syntax.specs.declared.building.Building.{Building}
-use Rattle.lua_syntax.specs.declared.piece.Token.{Token}
+use Rattle.lua_tokens.specs.declared.pieces.Token.{Token}
 use Rattle.lua_syntax.specs.Refusal.{LuaRefusal, Syntax, TooDeep}
-use Rattle.lua_syntax.specs.Table.{row, operand_row, most_open}
+use Rattle.lua_grammar.specs.Table.{row, operand_row, most_open}
 use Rattle.lua_syntax.specs.Building.{act, nothing_read}
-use Rattle.lua_syntax.specs.Tokens.{tokens, cut, last_line}
-use Rattle.lua_syntax.specs.Reading.{Reading, Step, Goes, Wrong, Deep, keeps_text, taken, opened, begun_by, by_row, step, by_step, run, tree_of}
-use Rattle.lua_syntax.specs.Language.{Derives, nothing, opens, begins_open, ends, with_one_more, IsChunk, IsAnswer}
+use Rattle.lua_tokens.specs.Tokens.{tokens}
+use Rattle.lua_syntax.specs.Reading.{Reading, Step, Goes, Wrong, Deep, keeps_text, taken, opened, begun_by, by_row, step, run, tree_of}
+use Rattle.lua_syntax.proofs.Derivation.{Derives, opens, begins_open, ends, with_one_more}
+use Rattle.lua_syntax.specs.Language.{IsAnswer, IsFirstWrong, IsFirstDeep}
 use Rattle.lua_syntax.proofs.Completing.{EndsInChunk, completed}
-use Rattle.lua_syntax.proofs.Stacking.{are_parts, leaves_parts, row_parts, operand_parts, ends_above, above_both, KeepsEnd, keeps_end, end_on, LeavesNothing, end_leaves_nothing}
-use Rattle.lua_syntax.proofs.Refusing.{Precedes, precedes, goes_wrong}
+use Rattle.lua_syntax.proofs.Stacking.{are_parts, leaves_parts, row_parts, operand_parts, ends_above, above_both}
+use Rattle.lua_syntax.proofs.Refusing.{leads_derive, leads_end, wrong_at, deep_at}
+use Rattle.lua_syntax.proofs.Running.{ReadsOn, read_on, run_answers, all_within, wrong_there, first_within, deep_there, deep_refused}
+use Rattle.lua_syntax.proofs.OneTree.{chunk_reads}
+use Rattle.lua_syntax.proofs.Sound.{read_texts_are_chunks, derived_is_a_chunk}
+use Rattle.lua_grammar.specs.Grammar.{IsChunkOf}
+use Rattle.lua_grammar.specs.Nesting.{opened_by}
+use Rattle.lua_syntax.specs.Nested.{AllWithin, IsFirstBeyond, answer_of}
 
 -- ---- a token that is too deep
 
@@ -83,112 +90,73 @@ deep_goes_on (symbol ∷ next ∷ stack) token parts fine =
     row_deep symbol next stack parts token fine.1 (λ action. deep_goes_on (next ∷ stack) token (act action parts) fine.1)
     (row symbol parts.opened token.kind token.line) refl (row_parts symbol parts.opened token.kind token.line fine.0)
 
--- where reading is too deep, from a stack on
-pub record DeepFrom (stack : List Symbol) (parts : Building) (tokens : List Token) (deep : Token) : Type 0 where
-  pub before : List Token
-  pub behind : List Token
-  pub more : List Token
-  pub split : tokens ≡ before ++ deep ∷ behind
-  pub goes_on : Derives stack parts (before ++ deep ∷ more)
-
--- the token that is too deep is on this line
-abbrev pub DeepOn : Reading → List Token → ℕ → Type 0
-DeepOn reading tokens line = (deep : Token) × (line ≡ deep.line) × DeepFrom reading.stack reading.parts tokens deep
-
--- by the step of the first token, where what is said of the others is known
-deep_by_step : (tokens : List Token) (reading : Reading) (token : Token) (line : ℕ) → EndsInChunk reading.stack →
-    ((next : Reading) → EndsInChunk next.stack → run next tokens ≡ Err (TooDeep line) → DeepOn next tokens line) →
-    (s : Step) → step reading.stack token reading.parts ≡ s →
-    by_step s (λ (next : Reading). run next tokens) token.line ≡ Err (TooDeep line) → DeepOn reading (token ∷ tokens) line
-deep_by_step tokens reading token line fine known (Goes next) led is =
-    let from = known next (subst KeepsEnd led (keeps_end reading.stack token reading.parts fine)) is in
-    let all = from.2.before ++ from.0 ∷ from.2.more in (
-      from.0,
-      from.1,
-      record {
-        before = token ∷ from.2.before;
-        behind = from.2.behind;
-        more = from.2.more;
-        split = ap (λ (rest : List Token). token ∷ rest) from.2.split;
-        goes_on = subst (λ (s : Step). Precedes reading.stack reading.parts token all s) led (precedes reading.stack reading.parts token all) from.2.goes_on;
-      },
-    )
-deep_by_step tokens reading token line fine known Wrong led is = absurd (cc)
-deep_by_step tokens reading token line fine known Deep led is =
-    let c = subst (λ (s : Step). DeepGoesOn reading.stack reading.parts token s) led (deep_goes_on reading.stack token reading.parts fine) in
-    (token, cc, record { before = []; behind = tokens; more = c.0; split = refl; goes_on = c.1 })
-
-goes_deep : (tokens : List Token) (reading : Reading) (line : ℕ) → EndsInChunk reading.stack → run reading tokens ≡ Err (TooDeep line) → DeepOn reading tokens line
-unfolding run
-goes_deep [] reading line fine is = absurd (cc)
-goes_deep (token ∷ tokens) reading line fine is =
-    deep_by_step tokens reading token line fine (λ (next : Reading). goes_deep tokens next line) (step reading.stack token reading.parts) refl is
-
--- ---- tokens that are read
-
-nothing_derived : (stack : List Symbol) (parts : Building) → stack ≡ [] → Derives stack parts []
-nothing_derived stack parts is = subst (λ (rest : List Symbol). Derives rest parts []) (sym is) (nothing parts)
-
-end_by_step : (reading : Reading) (line : ℕ) (items : List Item) → EndsInChunk reading.stack → (s : Step) → step reading.stack (end_on line) reading.parts ≡ s →
-    by_step s (λ (next : Reading). run next []) line ≡ Ok items → Derives reading.stack reading.parts (end_on line ∷ [])
-end_by_step reading line items fine (Goes next) led is =
-    subst (λ (s : Step). Precedes reading.stack reading.parts (end_on line) [] s) led (precedes reading.stack reading.parts (end_on line) [])
-    (nothing_derived next.stack next.parts (subst LeavesNothing led (end_leaves_nothing reading.stack line reading.parts fine)))
-end_by_step reading line items fine Wrong led is = absurd (cc)
-end_by_step reading line items fine Deep led is = absurd (cc)
-
-token_by_step : (tokens : List Token) (reading : Reading) (token : Token) (items : List Item) → EndsInChunk reading.stack →
-    ((next : Reading) → EndsInChunk next.stack → run next tokens ≡ Ok items → Derives next.stack next.parts tokens) →
-    (s : Step) → step reading.stack token reading.parts ≡ s →
-    by_step s (λ (next : Reading). run next tokens) token.line ≡ Ok items → Derives reading.stack reading.parts (token ∷ tokens)
-token_by_step tokens reading token items fine known (Goes next) led is =
-    subst (λ (s : Step). Precedes reading.stack reading.parts token tokens s) led (precedes reading.stack reading.parts token tokens)
-    (known next (subst KeepsEnd led (keeps_end reading.stack token reading.parts fine)) is)
-token_by_step tokens reading token items fine known Wrong led is = absurd (cc)
-token_by_step tokens reading token items fine known Deep led is = absurd (cc)
-
-read_is_derived : (tokens : List Token) (reading : Reading) (line : ℕ) (items : List Item) → EndsInChunk reading.stack → run reading (tokens ++ end_on line ∷ []) ≡ Ok items →
-    Derives reading.stack reading.parts (tokens ++ end_on line ∷ [])
-unfolding run
-read_is_derived [] reading line items fine is = end_by_step reading line items fine (step reading.stack (end_on line) reading.parts) refl is
-read_is_derived (token ∷ tokens) reading line items fine is =
-    token_by_step (tokens ++ end_on line ∷ []) reading token items fine (λ (next : Reading). read_is_derived tokens next line items) (step reading.stack token reading.parts) refl is
-
 -- ---- what a text gives
 
 -- where reading starts
 abbrev start : Reading
 start = record { stack = s.Chunk ∷ []; parts = nothing_read }
 
-by_answer : (text : List ℕ) (answer : Result (List Item) LuaRefusal) → run start (tokens text) ≡ answer → IsAnswer (tokens text) answer
-unfolding tokens
-by_answer text (Ok items) is = read_is_derived (cut 0 0 text) start (last_line text) items refl is
-by_answer text (Err (Syntax line)) is =
-    let from = goes_wrong (tokens text) start line refl is in
-    let wrong = from.2 in (
-      from.0,
-      from.1,
+chunk_on : (tokens : List Token) (items : List Item) (chunk : IsChunkOf tokens items) → ReadsOn start tokens (opened_by chunk) items
+chunk_on tokens items chunk = read_on (s.Chunk ∷ []) nothing_read tokens (opened_by chunk) items (chunk_reads tokens items chunk)
+
+read_answer : (text : List ℕ) (items : List Item) → tree_of text ≡ Ok items → (chunk : IsChunkOf (tokens text) items) → (one : IsChunkOf (tokens text) items) × AllWithin (opened_by one)
+unfolding tree_of
+read_answer text items answer chunk = (chunk, all_within (tokens text) start (opened_by chunk) items items answer (chunk_on (tokens text) items chunk))
+
+wrong_answer : (all : List Token) (line : ℕ) → run start all ≡ Err (Syntax line) → (wrong : Token) × (line ≡ wrong.line) × IsFirstWrong all wrong
+wrong_answer all line answer =
+    let at = wrong_at all start line answer in
+    let c = completed at.last.stack at.last.parts (leads_end at.before start at.last at.led refl) in
+    let g = derived_is_a_chunk (at.before ++ c.0) (leads_derive at.before start at.last c.0 at.led c.1) in (
+      at.refused,
+      at.on,
       record {
-        before = wrong.before;
-        behind = wrong.behind;
-        split = wrong.split;
-        goes_on = (wrong.more, wrong.goes_on);
-        stops = λ more. wrong.stops more.0 (subst (λ (all : List Token). IsChunk all) (append_assoc wrong.before (from.0 ∷ []) more.0) more.1);
-      },
-    )
-by_answer text (Err (TooDeep line)) is =
-    let from = goes_deep (tokens text) start line refl is in
-    let deep = from.2 in (
-      from.0,
-      from.1,
-      record {
-        before = deep.before;
-        behind = deep.behind;
-        split = deep.split;
-        goes_on = (deep.more, subst (λ (all : List Token). IsChunk all) (sym (append_assoc deep.before (from.0 ∷ []) deep.more)) deep.goes_on);
+        before = at.before;
+        behind = at.behind;
+        split = at.split;
+        more = c.0;
+        items = g.0;
+        chunk = g.1;
+        within = first_within at.before start at.last c.0 (opened_by g.1) g.0 at.led (chunk_on (at.before ++ c.0) g.0 g.1);
+        stops = λ others.
+            let chunk = subst (λ (ts : List Token). IsChunkOf ts others.1) (append_assoc at.before (at.refused ∷ []) others.0) others.2 in
+            wrong_there at.before start at.last at.refused others.0 (opened_by chunk) others.1 at.led at.is (chunk_on (at.before ++ at.refused ∷ others.0) others.1 chunk);
       },
     )
 
-pub texts_answer : (text : List ℕ) → IsAnswer (tokens text) (tree_of text)
+deep_answer : (all : List Token) (line : ℕ) → run start all ≡ Err (TooDeep line) → (deep : Token) × (line ≡ deep.line) × IsFirstDeep all deep
+deep_answer all line answer =
+    let at = deep_at all start line answer in
+    let c = subst (λ (found : Step). DeepGoesOn at.last.stack at.last.parts at.refused found) at.is (deep_goes_on at.last.stack at.refused at.last.parts (leads_end at.before start at.last at.led refl)) in
+    let g = derived_is_a_chunk (at.before ++ at.refused ∷ c.0) (leads_derive at.before start at.last (at.refused ∷ c.0) at.led c.1) in (
+      at.refused,
+      at.on,
+      record {
+        before = at.before;
+        behind = at.behind;
+        split = at.split;
+        more = c.0;
+        items = g.0;
+        chunk = g.1;
+        first = deep_there at.before start at.last at.refused c.0 (opened_by g.1) g.0 at.led at.is (chunk_on (at.before ++ at.refused ∷ c.0) g.0 g.1);
+      },
+    )
+
+by_answer : (text : List ℕ) (answer : Result (List Item) LuaRefusal) → tree_of text ≡ answer → IsAnswer (tokens text) answer
 unfolding tree_of
+by_answer text (Ok items) is = read_answer text items is (read_texts_are_chunks text items is)
+by_answer text (Err (Syntax line)) is = wrong_answer (tokens text) line is
+by_answer text (Err (TooDeep line)) is = deep_answer (tokens text) line is
+
+pub texts_answer : (text : List ℕ) → IsAnswer (tokens text) (tree_of text)
 texts_answer text = by_answer text (tree_of text) refl
+
+pub chunks_are_read : (text : List ℕ) (items : List Item) (chunk : IsChunkOf (tokens text) items) → tree_of text ≡ answer_of (tokens text) (opened_by chunk) items
+unfolding tree_of
+chunks_are_read text items chunk = run_answers (tokens text) start (opened_by chunk) items (chunk_on (tokens text) items chunk)
+
+pub deep_texts_are_refused : (text : List ℕ) (before behind more : List Token) (deep : Token) (items : List Item) (chunk : IsChunkOf (before ++ deep ∷ more) items) →
+    tokens text ≡ before ++ deep ∷ behind → IsFirstBeyond (length before) (opened_by chunk) → tree_of text ≡ Err (TooDeep deep.line)
+unfolding tree_of
+deep_texts_are_refused text before behind more deep items chunk same first =
+    ap (run start) same ∙ deep_refused before start deep behind more (opened_by chunk) items (chunk_on (before ++ deep ∷ more) items chunk) first

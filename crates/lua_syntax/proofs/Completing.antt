@@ -1,21 +1,21 @@
 -- Each stack that is reached can be completed: behind what was read something can come that makes it a chunk.
 use Rattle.std.proofs.Common.{◌≡◌, ℕ, Bool, true, false, List, [], ◌∷◌, ◌++◌, refl, sym, subst}
-use Rattle.lua_syntax.specs.declared.kind.Kind.{Kind}
-use Rattle.lua_syntax.specs.declared.kind.Kind.TheVariants as k
-use Rattle.lua_syntax.specs.declared.kind.Role.TheVariants.{Plain}
-use Rattle.lua_syntax.specs.declared.symbol.Mark.{Mark}
-use Rattle.lua_syntax.specs.declared.symbol.Mark.TheVariants as m
-use Rattle.lua_syntax.specs.declared.symbol.Action.{Action}
-use Rattle.lua_syntax.specs.declared.symbol.Action.TheVariants as a
-use Rattle.lua_syntax.specs.declared.symbol.Symbol.{Symbol}
-use Rattle.lua_syntax.specs.declared.symbol.Symbol.TheVariants as s
-use Rattle.lua_syntax.specs.declared.symbol.Row.TheVariants.{Takes, Opens, Begins, Passes}
+use Rattle.lua_tokens.specs.declared.kind.Kind.{Kind}
+use Rattle.lua_tokens.specs.declared.kind.Kind.TheVariants as k
+use Rattle.lua_tokens.specs.declared.kind.Role.TheVariants.{Plain}
+use Rattle.lua_grammar.specs.declared.symbol.Mark.{Mark}
+use Rattle.lua_grammar.specs.declared.symbol.Mark.TheVariants as m
+use Rattle.lua_grammar.specs.declared.symbol.Action.{Action}
+use Rattle.lua_grammar.specs.declared.symbol.Action.TheVariants as a
+use Rattle.lua_grammar.specs.declared.symbol.Symbol.{Symbol}
+use Rattle.lua_grammar.specs.declared.symbol.Symbol.TheVariants as s
+use Rattle.lua_grammar.specs.declared.symbol.Row.TheVariants.{Takes, Opens, Begins, Passes}
 use Rattle.lua_syntax.specs.declared.building.Building.{Building}
-use Rattle.lua_syntax.specs.declared.piece.Token.{Token}
-use Rattle.lua_syntax.specs.Table.{row, operators_row, suffix_row, target_call_row, a_block, called, library_call}
+use Rattle.lua_tokens.specs.declared.pieces.Token.{Token}
+use Rattle.lua_grammar.specs.Table.{row, operators_row, suffix_row, target_call_row, a_block, called, library_call}
 use Rattle.lua_syntax.specs.Building.{act}
 use Rattle.lua_syntax.specs.Reading.{keeps_text}
-use Rattle.lua_syntax.specs.Language.{Derives, nothing, takes, opens, begins, ends, with_one_more}
+use Rattle.lua_syntax.proofs.Derivation.{Derives, nothing, takes, opens, begins, ends, with_one_more}
 
 -- no operator, member or index goes on with this token
 abbrev pub EndsOperand : Kind → Type 0
@@ -47,13 +47,14 @@ open_on symbol stack kind body is ending behind = λ parts.
     (a_token kind, next.0 ∷ next.1, ending, opens symbol stack (body parts.opened) parts (a_token kind) (next.0 ∷ next.1) (is parts.opened) next.3)
 
 -- what begins with an operand begins with `nil`
-nil_on : (symbol : Symbol) (stack body : List Symbol) → ((opened : ℕ) → row symbol opened k.Nil 1 ≡ Begins body) → Completes (s.Make a.Nil ∷ (body ++ stack)) → Completes (symbol ∷ stack)
+nil_on : (symbol : Symbol) (stack : List Symbol) (body : ℕ → List Symbol) → ((opened : ℕ) → row symbol opened k.Nil 1 ≡ Begins (body opened)) →
+    ((opened : ℕ) → Completes (s.Make a.Nil ∷ (body opened ++ stack))) → Completes (symbol ∷ stack)
 nil_on symbol stack body is behind = λ parts.
-    let next = behind parts in (
+    let next = behind parts.opened parts in (
       a_token k.Nil,
       next.0 ∷ next.1,
       (λ least line. refl, λ opened line. refl, λ opened line. refl),
-      begins symbol stack body (s.Make a.Nil ∷ []) parts (a_token k.Nil) (next.0 ∷ next.1) (is parts.opened) refl next.3,
+      begins symbol stack (body parts.opened) (s.Make a.Nil ∷ []) parts (a_token k.Nil) (next.0 ∷ next.1) (is parts.opened) refl next.3,
     )
 
 make_on : (action : Action) (stack : List Symbol) → Completes stack → Completes (s.Make action ∷ stack)
@@ -97,7 +98,13 @@ semicolon_on stack b = take_on _ stack k.Semicolon (λ n. []) (λ n. refl) (λ l
 
 expression_on : (stack : List Symbol) → Completes stack → Completes (s.Expression ∷ stack)
 unfolding row
-expression_on stack b = nil_on _ stack (s.Operators 1 ∷ []) (λ n. refl) (make_on a.Nil (s.Operators 1 ∷ stack) (operators_on 1 stack b))
+expression_on stack b = nil_on _ stack (λ n. s.Operators 1 ∷ []) (λ n. refl) (λ n. make_on a.Nil (s.Operators 1 ∷ stack) (operators_on 1 stack b))
+
+key_on : (stack : List Symbol) → Completes stack → Completes (s.Key ∷ stack)
+unfolding row
+key_on stack b = nil_on _ stack (λ n. s.Operators 1 ∷ s.Token m.RightBracket ∷ s.Make (a.Restore n) ∷ []) (λ n. refl) (λ n.
+    make_on a.Nil (s.Operators 1 ∷ s.Token m.RightBracket ∷ s.Make (a.Restore n) ∷ stack) (operators_on 1 (s.Token m.RightBracket ∷ s.Make (a.Restore n) ∷ stack)
+    (mark_on m.RightBracket (s.Make (a.Restore n) ∷ stack) (make_on (a.Restore n) stack b))))
 
 -- an expression, of which something is made
 made_on : (action : Action) (stack : List Symbol) → Completes stack → Completes (s.Expression ∷ s.Make action ∷ stack)
@@ -105,8 +112,8 @@ made_on action stack b = expression_on (s.Make action ∷ stack) (make_on action
 
 return_value_on : (stack : List Symbol) → Completes stack → Completes (s.ReturnValue ∷ stack)
 unfolding row
-return_value_on stack b = nil_on _ stack (s.Operators 1 ∷ s.Make a.ReturnWith ∷ []) (λ n. refl)
-    (make_on a.Nil (s.Operators 1 ∷ s.Make a.ReturnWith ∷ stack) (operators_on 1 (s.Make a.ReturnWith ∷ stack) (make_on a.ReturnWith stack b)))
+return_value_on stack b = nil_on _ stack (λ n. s.Operators 1 ∷ s.Make a.ReturnWith ∷ []) (λ n. refl)
+    (λ n. make_on a.Nil (s.Operators 1 ∷ s.Make a.ReturnWith ∷ stack) (operators_on 1 (s.Make a.ReturnWith ∷ stack) (make_on a.ReturnWith stack b)))
 
 -- a block is completed by `return nil;`
 block_on : (in_loop : Bool) (stack : List Symbol) → Completes stack → Completes (s.Block in_loop ∷ stack)
@@ -146,7 +153,8 @@ add (s.TargetMember role line name_line) stack b = take_on _ stack k.Assign (λ 
 add (s.TargetIndex line) stack b = take_on _ stack k.Assign (λ n. s.Expression ∷ s.Make (a.SetIndex line) ∷ []) (λ n. refl) (λ l n. refl, λ l n. refl, λ l n. refl) (λ n. made_on (a.SetIndex line) stack b)
 add s.TargetCall stack b = target_call_on stack b
 add s.Expression stack b = expression_on stack b
-add s.Operand stack b = nil_on _ stack [] (λ n. refl) (make_on a.Nil stack b)
+add s.Key stack b = key_on stack b
+add s.Operand stack b = nil_on _ stack (λ n. []) (λ n. refl) (λ n. make_on a.Nil stack b)
 add (s.Operators least) stack b = operators_on least stack b
 add (s.AfterName role line) stack b = open_on _ stack k.LeftParen (λ n. called (a.Call line) []) (λ n. refl) (λ l n. refl, λ l n. refl, λ l n. refl) (λ n. called_on (a.Call line) stack b)
 add (s.LibraryName role line) stack b = take_on _ stack (k.Name Plain) (λ n. s.AfterMember role line 1 ∷ []) (λ n. refl) (λ l n. refl, λ l n. refl, λ l n. refl)

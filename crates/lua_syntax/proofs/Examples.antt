@@ -1,18 +1,18 @@
 -- Small texts and what they are, computed.
 use Rattle.std.proofs.Common.{◌≡◌, ◌++◌, [], ◌∷◌, Ok, Err, refl}
 use Rattle.std.specs.Prelude.{codes, pos, None, Some}
-use Rattle.lua_syntax.specs.declared.tree.Item.TheVariants as item
-use Rattle.lua_syntax.specs.declared.tree.Expr.TheVariants as e
-use Rattle.lua_syntax.specs.declared.tree.Entry.TheVariants as entry
-use Rattle.lua_syntax.specs.declared.tree.BinaryOp.TheVariants as binary
-use Rattle.lua_syntax.specs.declared.tree.UnaryOp.TheVariants as unary
-use Rattle.lua_syntax.specs.declared.tree.LuaStatement.TheVariants as statement
-use Rattle.lua_syntax.specs.declared.tree.LuaBlock.{roll-LuaBlock}
-use Rattle.lua_syntax.specs.declared.tree.Arm.{roll-Arm}
+use Rattle.lua_tree.specs.declared.tree.Item.TheVariants as item
+use Rattle.lua_tree.specs.declared.tree.Expr.TheVariants as e
+use Rattle.lua_tree.specs.declared.tree.Entry.TheVariants as entry
+use Rattle.lua_tree.specs.declared.tree.BinaryOp.TheVariants as binary
+use Rattle.lua_tree.specs.declared.tree.UnaryOp.TheVariants as unary
+use Rattle.lua_tree.specs.declared.tree.LuaStatement.TheVariants as statement
+use Rattle.lua_tree.specs.declared.tree.LuaBlock.{roll-LuaBlock}
+use Rattle.lua_tree.specs.declared.tree.Arm.{roll-Arm}
 use Rattle.lua_syntax.specs.Refusal.{Syntax}
-use Rattle.lua_syntax.specs.Table.{row}
+use Rattle.lua_grammar.specs.Table.{row}
 use Rattle.lua_syntax.specs.Building.{act, act_expression, act_list, act_statement, act_block, act_item}
-use Rattle.lua_syntax.specs.Tokens.{word_kind, numeral_kind, quoted, word_piece, numeral_piece, string_piece, comment_piece, sign_piece, piece, tokens}
+use Rattle.lua_tokens.specs.Tokens.{word_kind, numeral_kind, quoted, word_piece, numeral_piece, string_piece, comment_piece, sign_piece, piece, tokens}
 use Rattle.lua_syntax.specs.Reading.{step, run, tree_of}
 
 -- the half of seven, rounded down

@@ -1,6 +1,4 @@
-pub mod Numerals
-pub mod StringReading
-pub mod Comments
+pub mod Derivation
 pub mod Stepping
 pub mod Places
 pub mod Wholes
@@ -11,3 +9,8 @@ pub mod Refusing
 pub mod Answering
 pub mod Meaning
 pub mod Sound
+pub mod TokensRead
+pub mod ReadExpressions
+pub mod ReadStatements
+pub mod Running
+pub mod OneTree

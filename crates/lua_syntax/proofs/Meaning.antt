@@ -1,40 +1,40 @@
 -- What a stack that is read stands for, by the forms of the grammar: row by row.
 use Rattle.std.proofs.Common.{◌≡◌, ℕ, Bool, true, false, List, [], ◌∷◌, ◌++◌, refl, ap, ◌∙◌, sym, subst, append_assoc}
 use Rattle.std.specs.Prelude.{if◌then◌else◌, nat_le, Option, Some, None}
-use Rattle.lua_syntax.specs.declared.tree.UnaryOp.TheVariants as unary
-use Rattle.lua_syntax.specs.declared.tree.BinaryOp.{BinaryOp}
-use Rattle.lua_syntax.specs.declared.tree.BinaryOp.TheVariants as binary
-use Rattle.lua_syntax.specs.declared.tree.Item.{Item}
-use Rattle.lua_syntax.specs.declared.tree.Item.TheVariants as item
-use Rattle.lua_syntax.specs.declared.tree.Expr.{Expr}
-use Rattle.lua_syntax.specs.declared.tree.Expr.TheVariants as e
-use Rattle.lua_syntax.specs.declared.tree.Entry.{Entry}
-use Rattle.lua_syntax.specs.declared.tree.Entry.TheVariants as entry
-use Rattle.lua_syntax.specs.declared.tree.LuaStatement.{LuaStatement}
-use Rattle.lua_syntax.specs.declared.tree.LuaStatement.TheVariants as statement
-use Rattle.lua_syntax.specs.declared.tree.LuaBlock.{LuaBlock}
-use Rattle.lua_syntax.specs.declared.tree.Arm.{Arm, roll-Arm}
-use Rattle.lua_syntax.specs.declared.kind.Kind.{Kind}
-use Rattle.lua_syntax.specs.declared.kind.Kind.TheVariants as k
-use Rattle.lua_syntax.specs.declared.kind.Role.{Role}
-use Rattle.lua_syntax.specs.declared.kind.Role.TheVariants.{Plain, Math, Table}
-use Rattle.lua_syntax.specs.declared.symbol.Mark.{Mark}
-use Rattle.lua_syntax.specs.declared.symbol.Mark.TheVariants as m
-use Rattle.lua_syntax.specs.declared.symbol.Action.TheVariants as a
-use Rattle.lua_syntax.specs.declared.symbol.Symbol.{Symbol}
-use Rattle.lua_syntax.specs.declared.symbol.Symbol.TheVariants as s
-use Rattle.lua_syntax.specs.declared.symbol.Row.{Row}
-use Rattle.lua_syntax.specs.declared.symbol.Row.TheVariants.{Takes, Opens, Begins, Passes, Refuses}
+use Rattle.lua_tree.specs.declared.tree.UnaryOp.TheVariants as unary
+use Rattle.lua_tree.specs.declared.tree.BinaryOp.{BinaryOp}
+use Rattle.lua_tree.specs.declared.tree.BinaryOp.TheVariants as binary
+use Rattle.lua_tree.specs.declared.tree.Item.{Item}
+use Rattle.lua_tree.specs.declared.tree.Item.TheVariants as item
+use Rattle.lua_tree.specs.declared.tree.Expr.{Expr}
+use Rattle.lua_tree.specs.declared.tree.Expr.TheVariants as e
+use Rattle.lua_tree.specs.declared.tree.Entry.{Entry}
+use Rattle.lua_tree.specs.declared.tree.Entry.TheVariants as entry
+use Rattle.lua_tree.specs.declared.tree.LuaStatement.{LuaStatement}
+use Rattle.lua_tree.specs.declared.tree.LuaStatement.TheVariants as statement
+use Rattle.lua_tree.specs.declared.tree.LuaBlock.{LuaBlock}
+use Rattle.lua_tree.specs.declared.tree.Arm.{Arm, roll-Arm}
+use Rattle.lua_tokens.specs.declared.kind.Kind.{Kind}
+use Rattle.lua_tokens.specs.declared.kind.Kind.TheVariants as k
+use Rattle.lua_tokens.specs.declared.kind.Role.{Role}
+use Rattle.lua_tokens.specs.declared.kind.Role.TheVariants.{Plain, Math, Table}
+use Rattle.lua_grammar.specs.declared.symbol.Mark.{Mark}
+use Rattle.lua_grammar.specs.declared.symbol.Mark.TheVariants as m
+use Rattle.lua_grammar.specs.declared.symbol.Action.TheVariants as a
+use Rattle.lua_grammar.specs.declared.symbol.Symbol.{Symbol}
+use Rattle.lua_grammar.specs.declared.symbol.Symbol.TheVariants as s
+use Rattle.lua_grammar.specs.declared.symbol.Row.{Row}
+use Rattle.lua_grammar.specs.declared.symbol.Row.TheVariants.{Takes, Opens, Begins, Passes, Refuses}
 use Rattle.lua_syntax.specs.declared.building.Building.{Building}
-use Rattle.lua_syntax.specs.declared.piece.Token.{Token}
+use Rattle.lua_tokens.specs.declared.pieces.Token.{Token}
 use Rattle.lua_syntax.specs.Stacks.{top, below}
-use Rattle.lua_syntax.specs.Table as table
-use Rattle.lua_syntax.specs.Table.{row, operand_row, most_open, level, right_level, binary_of}
+use Rattle.lua_grammar.specs.Table as table
+use Rattle.lua_grammar.specs.Table.{row, operand_row, most_open, level, right_level, binary_of}
 use Rattle.lua_syntax.specs.Building.{act, act_expression, act_list, act_statement, act_block, act_item, at_end}
-use Rattle.lua_syntax.specs.Language.{with_one_more}
+use Rattle.lua_syntax.proofs.Derivation.{with_one_more}
 use Rattle.lua_syntax.specs.Reading.{keeps_text, opened}
-use Rattle.lua_syntax.specs.Grammar as f
-use Rattle.lua_syntax.specs.Grammar.{token, Is, is, IsName, name, Without, without, block_of, IsSemicolon, IsExpression, IsOperations, IsOperand, IsNamed, IsLibrarys, IsFunction, AreSuffixes, AreArguments, AreMoreArguments, AreEntries, AreMoreEntries, IsEntry, IsOfName, IsOfDot, IsOfMember, IsOfIndex, IsOfCall, IsLocalValue, IsReturnValue, IsBlock, IsStatement, IsThenBlock, IsDoBlock, AreArms, IsForBody, AreParameters, AreMoreParameters, AreItems}
+use Rattle.lua_grammar.specs.Grammar as f
+use Rattle.lua_grammar.specs.Grammar.{token, Is, is, IsName, name, Without, without, block_of, IsSemicolon, IsExpression, IsOperations, IsOperand, IsNamed, IsLibrarys, IsFunction, AreSuffixes, AreArguments, AreMoreArguments, AreEntries, AreMoreEntries, IsEntry, IsOfName, IsOfDot, IsOfMember, IsOfIndex, IsOfCall, IsLocalValue, IsReturnValue, IsBlock, IsStatement, IsThenBlock, IsDoBlock, AreArms, IsForBody, AreParameters, AreMoreParameters, AreItems}
 
 -- several at the end of the list that is being read
 abbrev pub extend : {T : Type 0} → List T → List (List T) → List (List T)
@@ -79,6 +79,7 @@ Means ((s.TargetMember role dot_line line) ∷ stack) b tokens final = (s : LuaS
 Means ((s.TargetIndex line) ∷ stack) b tokens final = (s : LuaStatement) × (n : ℕ) × (rest : List Token) × IsOfIndex line (top e.Nil (below b.exprs)) (top e.Nil b.exprs) tokens s rest × Means stack (record b { exprs = below (below b.exprs); blocks = at_end s b.blocks; opened = n }) rest final
 Means (s.TargetCall ∷ stack) b tokens final = (s : LuaStatement) × (n : ℕ) × (rest : List Token) × IsOfCall (top e.Nil b.exprs) tokens s rest × Means stack (record b { exprs = below b.exprs; blocks = at_end s b.blocks; opened = n }) rest final
 Means (s.Expression ∷ stack) b tokens final = (x : Expr) × (n : ℕ) × (rest : List Token) × IsExpression 1 tokens x rest × Means stack (record b { exprs = x ∷ b.exprs; opened = n }) rest final
+Means (s.Key ∷ stack) b tokens final = (x : Expr) × (n : ℕ) × (inner rest : List Token) × IsExpression 1 tokens x inner × Is k.RightBracket inner rest × Means stack (record b { exprs = x ∷ b.exprs; opened = n }) rest final
 Means (s.Operand ∷ stack) b tokens final = (x : Expr) × (n : ℕ) × (rest : List Token) × IsOperand tokens x rest × Means stack (record b { exprs = x ∷ b.exprs; opened = n }) rest final
 Means ((s.Operators least) ∷ stack) b tokens final = OnTop b.exprs (λ left others. (x : Expr) × (n : ℕ) × (rest : List Token) × IsOperations least left tokens x rest × Means stack (record b { exprs = x ∷ others; opened = n }) rest final)
 Means ((s.AfterName role line) ∷ stack) b tokens final = (x : Expr) × (n : ℕ) × (rest : List Token) × IsNamed role line (top [] b.texts) tokens x rest × Means stack (record b { texts = below b.texts; exprs = x ∷ b.exprs; opened = n }) rest final
@@ -106,11 +107,11 @@ RowMeans (Begins behind) stack b first more final = BegunMeans (operand_row b.op
 RowMeans (Passes action) stack b first more final = Means stack (act action b) (first ∷ more) final
 RowMeans Refuses stack b first more final = ⊥
 
-end_nil : {T : Type 0} (xs : List T) → xs ≡ xs ++ []
+pub end_nil : {T : Type 0} (xs : List T) → xs ≡ xs ++ []
 end_nil [] = refl
 end_nil (x ∷ xs) = ap (λ ys. x ∷ ys) (end_nil xs)
 
-extend_is : {T : Type 0} (more before : List T) (lists : List (List T)) → extend more (before ∷ lists) ≡ (before ++ more) ∷ lists
+pub extend_is : {T : Type 0} (more before : List T) (lists : List (List T)) → extend more (before ∷ lists) ≡ (before ++ more) ∷ lists
 extend_is [] before lists = ap (λ ys. ys ∷ lists) (end_nil before)
 extend_is (x ∷ more) before lists = extend_is more (before ++ x ∷ []) lists ∙ ap (λ ys. ys ∷ lists) (append_assoc before (x ∷ []) more)
 
@@ -229,6 +230,10 @@ expression_begins : (stack : List Symbol) (b : Building) (kind : Kind) (line : �
 unfolding act act_expression act_list act_statement act_block act_item
 expression_begins stack b kind line text more final h = let r = operand_means (s.Operators 1 ∷ stack) b kind line text more final h in (r.4.0, r.4.1, r.4.2, f.expression r.3 r.4.3, r.4.4)
 
+key_begins : (stack : List Symbol) (b : Building) (kind : Kind) (line : ℕ) (text : List ℕ) (more : List Token) (final : List Item) → BegunMeans (operand_row b.opened kind line) (s.Operators 1 ∷ s.Token m.RightBracket ∷ s.Make (a.Restore b.opened) ∷ stack) b (token kind line text) more final → Means (s.Key ∷ stack) b (token kind line text ∷ more) final
+unfolding act act_expression act_list act_statement act_block act_item
+key_begins stack b kind line text more final h = let r = operand_means (s.Operators 1 ∷ s.Token m.RightBracket ∷ s.Make (a.Restore b.opened) ∷ stack) b kind line text more final h in let q = r.4.4 in (r.4.0, b.opened, r.4.2, q.0, f.expression r.3 r.4.3, q.1, q.2)
+
 argument_begins : (stack : List Symbol) (b : Building) (kind : Kind) (line : ℕ) (text : List ℕ) (more : List Token) (final : List Item) → BegunMeans (operand_row b.opened kind line) (s.Operators 1 ∷ s.Make a.AddArgument ∷ s.Make (a.Restore b.opened) ∷ s.MoreArguments ∷ stack) b (token kind line text) more final → Means (s.Arguments ∷ stack) b (token kind line text ∷ more) final
 unfolding act act_expression act_list act_statement act_block act_item
 argument_begins stack b kind line text more final h = let r = operand_means (s.Operators 1 ∷ s.Make a.AddArgument ∷ s.Make (a.Restore b.opened) ∷ s.MoreArguments ∷ stack) b kind line text more final h in let q = r.4.4 in (r.4.0 ∷ q.0, q.1, q.2, f.arguments (f.expression r.3 r.4.3) q.3, q.4)
@@ -280,7 +285,7 @@ unfolding act act_expression act_list act_statement act_block act_item
 target_means role name_line stack b k.Assign line text more final h = (statement.Assign (top [] b.texts) h.0, h.1, h.2, f.assign_name is h.3, h.4)
 target_means role name_line stack b k.LeftParen line text more final h = let r = arguments_read (s.Make (a.Call name_line) ∷ s.TargetCall ∷ stack) (with_one_more b) more final h in (r.4.0, r.4.1, r.4.2, f.call_name is r.3 r.4.3, r.4.4)
 target_means role name_line stack b k.Dot line text more final h = (h.0, h.1, h.2, f.member_name h.3, h.4)
-target_means role name_line stack b k.LeftBracket line text more final h = (h.4.2.0, h.4.2.1, h.4.2.2, f.index_name h.3 h.4.1 h.4.2.3, h.4.2.4)
+target_means role name_line stack b k.LeftBracket line text more final h = (h.6.0, h.6.1, h.6.2, f.index_name h.4 h.5 h.6.3, h.6.4)
 target_means role name_line stack b _ line text more final h = absurd h
 
 member_target_means : (role : Role) (dot_line : ℕ) (stack : List Symbol) (b : Building) (kind : Kind) (line : ℕ) (text : List ℕ) (more : List Token) (final : List Item) → RowMeans (table.member_target_row role dot_line kind line) stack b (token kind line text) more final → Means (s.MemberTarget role dot_line ∷ stack) b (token kind line text ∷ more) final
@@ -299,7 +304,7 @@ target_member_means : (role : Role) (dot_line name_line : ℕ) (stack : List Sym
 unfolding act act_expression act_list act_statement act_block act_item
 target_member_means role dot_line name_line stack b k.Assign line text more final h = (statement.SetMember (top e.Nil b.exprs) (top [] b.texts) h.0 dot_line, h.1, h.2, f.assign_member is h.3, h.4)
 target_member_means role dot_line name_line stack b k.Dot line text more final h = (h.0, h.1, h.2, f.member_member h.3, h.4)
-target_member_means role dot_line name_line stack b k.LeftBracket line text more final h = (h.4.2.0, h.4.2.1, h.4.2.2, f.index_member h.3 h.4.1 h.4.2.3, h.4.2.4)
+target_member_means role dot_line name_line stack b k.LeftBracket line text more final h = (h.6.0, h.6.1, h.6.2, f.index_member h.4 h.5 h.6.3, h.6.4)
 target_member_means role dot_line name_line stack b k.LeftParen line text more final h = library_target_means role dot_line name_line stack b line text more final h
 target_member_means role dot_line name_line stack b _ line text more final h = absurd h
 
@@ -307,13 +312,13 @@ target_index_means : (index_line : ℕ) (stack : List Symbol) (b : Building) (ki
 unfolding act act_expression act_list act_statement act_block act_item
 target_index_means index_line stack b k.Assign line text more final h = (statement.SetIndex (top e.Nil (below b.exprs)) (top e.Nil b.exprs) h.0 index_line, h.1, h.2, f.assign_index is h.3, h.4)
 target_index_means index_line stack b k.Dot line text more final h = (h.0, h.1, h.2, f.member_index h.3, h.4)
-target_index_means index_line stack b k.LeftBracket line text more final h = (h.4.2.0, h.4.2.1, h.4.2.2, f.index_index h.3 h.4.1 h.4.2.3, h.4.2.4)
+target_index_means index_line stack b k.LeftBracket line text more final h = (h.6.0, h.6.1, h.6.2, f.index_index h.4 h.5 h.6.3, h.6.4)
 target_index_means index_line stack b _ line text more final h = absurd h
 
 target_call_means : (stack : List Symbol) (b : Building) (kind : Kind) (line : ℕ) (text : List ℕ) (more : List Token) (final : List Item) → RowMeans (table.target_call_row b.opened kind line) stack b (token kind line text) more final → Means (s.TargetCall ∷ stack) b (token kind line text ∷ more) final
 unfolding act act_expression act_list act_statement act_block act_item
 target_call_means stack b k.Dot line text more final h = (h.0, h.1, h.2, f.member_call h.3, h.4)
-target_call_means stack b k.LeftBracket line text more final h = (h.4.2.0, h.4.2.1, h.4.2.2, f.index_call h.3 h.4.1 h.4.2.3, h.4.2.4)
+target_call_means stack b k.LeftBracket line text more final h = (h.6.0, h.6.1, h.6.2, f.index_call h.4 h.5 h.6.3, h.6.4)
 target_call_means stack b kind line text more final h = (statement.Call (top e.Nil b.exprs), b.opened, token kind line text ∷ more, f.call_alone (without refl), h)
 
 operator_means : (op : BinaryOp) (least : ℕ) (stack : List Symbol) (b : Building) (left : Expr) (others : List Expr) (line : ℕ) (text : List ℕ) (more : List Token) (final : List Item) (t : Bool) → nat_le least (level op) ≡ t →
@@ -341,7 +346,7 @@ suffix_means : (stack : List Symbol) (b : Building) (exprs : List Expr) (kind : 
 unfolding act act_expression act_list act_statement act_block act_item
 suffix_means stack b [] kind line text more final h = tt
 suffix_means stack b (left ∷ others) k.Dot line text more final h = (h.3.0, h.3.1, h.3.2, f.dotted h.2 h.3.3, h.3.4)
-suffix_means stack b (left ∷ others) k.LeftBracket line text more final h = (h.4.2.0, h.4.2.1, h.4.2.2, f.indexed h.3 h.4.1 h.4.2.3, h.4.2.4)
+suffix_means stack b (left ∷ others) k.LeftBracket line text more final h = (h.6.0, h.6.1, h.6.2, f.indexed h.4 h.5 h.6.3, h.6.4)
 suffix_means stack b (left ∷ others) kind line text more final h = (left, b.opened, token kind line text ∷ more, f.none (without refl), h)
 
 after_name_means : (role : Role) (name_line : ℕ) (stack : List Symbol) (b : Building) (kind : Kind) (line : ℕ) (text : List ℕ) (more : List Token) (final : List Item) → RowMeans (table.after_name_row role name_line kind line) stack b (token kind line text) more final → Means (s.AfterName role name_line ∷ stack) b (token kind line text ∷ more) final
@@ -413,7 +418,7 @@ entry_name_means : (role : Role) (name_line : ℕ) (stack : List Symbol) (b : Bu
 unfolding act act_expression act_list act_statement act_block act_item
 entry_name_means role name_line stack b k.Assign line text more final h = (entry.Named (top [] b.texts) h.0, h.1, h.2, f.named name is h.3, h.4)
 entry_name_means role name_line stack b k.LeftParen line text more final h = let r = arguments_read (s.Make (a.Call name_line) ∷ s.Suffix ∷ s.Operators 1 ∷ s.Make a.AddValue ∷ stack) (with_one_more b) more final h in let q = r.4 in let x = q.4 in (entry.Value x.0, x.1, x.2, f.value (f.expression (f.prefix (f.call is r.3) (q.3)) x.3), x.4)
-entry_name_means role name_line stack b k.LeftBracket line text more final h = let q = h.4.2 in let x = q.4 in (entry.Value x.0, x.1, x.2, f.value (f.expression (f.prefix (f.alone (without refl)) (f.indexed h.3 h.4.1 q.3)) x.3), x.4)
+entry_name_means role name_line stack b k.LeftBracket line text more final h = let q = h.6 in let x = q.4 in (entry.Value x.0, x.1, x.2, f.value (f.expression (f.prefix (f.alone (without refl)) (f.indexed h.4 h.5 q.3)) x.3), x.4)
 entry_name_means Plain name_line stack b k.Dot line text more final h = let q = h.3 in let x = q.4 in (entry.Value x.0, x.1, x.2, f.value (f.expression (f.prefix (f.alone (without refl)) (f.dotted h.2 q.3)) x.3), x.4)
 entry_name_means Math name_line stack b k.Dot line text more final h = let q = h.4 in let x = q.4 in (entry.Value x.0, x.1, x.2, f.value (f.expression (f.prefix (f.library refl h.3) (q.3)) x.3), x.4)
 entry_name_means Table name_line stack b k.Dot line text more final h = let q = h.4 in let x = q.4 in (entry.Value x.0, x.1, x.2, f.value (f.expression (f.prefix (f.library refl h.3) (q.3)) x.3), x.4)
@@ -441,6 +446,7 @@ row_means (s.TargetMember role dot_line name_line) stack b kind line text more f
 row_means (s.TargetIndex index_line) stack b kind line text more final h = target_index_means index_line stack b kind line text more final h
 row_means s.TargetCall stack b kind line text more final h = target_call_means stack b kind line text more final h
 row_means s.Expression stack b kind line text more final h = expression_begins stack b kind line text more final h
+row_means s.Key stack b kind line text more final h = key_begins stack b kind line text more final h
 row_means s.Operand stack b kind line text more final h = operand_means stack b kind line text more final h
 row_means (s.AfterName role name_line) stack b kind line text more final h = after_name_means role name_line stack b kind line text more final h
 row_means (s.LibraryName role dot_line) stack b kind line text more final h = library_name_means role dot_line stack b kind line text more final h

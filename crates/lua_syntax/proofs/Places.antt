@@ -4,12 +4,12 @@ use Rattle.std.specs.Prelude.{if◌then◌else◌, ◌==◌}
 use Rattle.std.proofs.lemmas.Grind.{common_steps}
 use Rattle.std.proofs.lemmas.List.{drop-drop}
 use Rattle.std.proofs.lemmas.List.Sums.{sum_by-cons}
-use Rattle.lua_syntax.specs.declared.piece.Piece.{Piece}
-use Rattle.lua_syntax.specs.declared.piece.Token.{Token}
+use Rattle.lua_tokens.specs.declared.pieces.Piece.{Piece}
+use Rattle.lua_tokens.specs.declared.pieces.Token.{Token}
 use Rattle.lua_syntax.specs.declared.building.Building.{Building}
-use Rattle.lua_syntax.specs.declared.symbol.Symbol.{Symbol}
+use Rattle.lua_grammar.specs.declared.symbol.Symbol.{Symbol}
 use Rattle.lua_syntax.specs.declared.error.LuaSyntax.{LuaSyntax}
-use Rattle.lua_syntax.specs.Tokens.{piece, cut, line_ends, onto_tokens, is_blank}
+use Rattle.lua_tokens.specs.Tokens.{piece, cut, line_ends, onto_tokens, is_blank}
 use Rattle.lua_syntax.specs.Reading.{run}
 use Rattle.lua_syntax.specs.Refusal.{IsRefused}
 use Rattle.lua_syntax.specs.Steps.{LeadsTo, FailsAt, AllLeadTo, AllFailAt}

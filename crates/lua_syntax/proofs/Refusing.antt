@@ -1,45 +1,20 @@
--- What is derived follows the steps, and each stack that is reached can be completed. So a token that a step refuses is the
--- first with which no chunk goes on.
-use Rattle.std.proofs.Common.{◌≡◌, ℕ, Bool, true, false, List, [], ◌∷◌, ◌++◌, refl, ap, ◌∙◌, sym, subst, Err}
+-- What derives the rest behind the tokens that were read derives them all.
+use Rattle.std.proofs.Common.{◌≡◌, ℕ, Bool, true, false, List, [], ◌∷◌, ◌++◌, refl, ap, sym, subst, Err}
 use Rattle.std.specs.Prelude.{if◌then◌else◌, nat_lt}
-use Rattle.lua_syntax.specs.declared.symbol.Symbol.{Symbol}
-use Rattle.lua_syntax.specs.declared.symbol.Action.{Action}
-use Rattle.lua_syntax.specs.declared.symbol.Row.{Row}
-use Rattle.lua_syntax.specs.declared.symbol.Row.TheVariants.{Takes, Opens, Begins, Passes, Refuses}
+use Rattle.lua_grammar.specs.declared.symbol.Symbol.{Symbol}
+use Rattle.lua_grammar.specs.declared.symbol.Action.{Action}
+use Rattle.lua_grammar.specs.declared.symbol.Row.{Row}
+use Rattle.lua_grammar.specs.declared.symbol.Row.TheVariants.{Takes, Opens, Begins, Passes, Refuses}
 use Rattle.lua_syntax.specs.declared.building.Building.{Building}
-use Rattle.lua_syntax.specs.declared.piece.Token.{Token}
-use Rattle.lua_syntax.specs.Refusal.{Syntax}
-use Rattle.lua_syntax.specs.Table.{row, operand_row, most_open}
+use Rattle.lua_tokens.specs.declared.pieces.Token.{Token}
+use Rattle.lua_syntax.specs.Refusal.{Syntax, TooDeep}
+use Rattle.lua_grammar.specs.Table.{row, operand_row, most_open}
 use Rattle.lua_syntax.specs.Building.{act}
 use Rattle.lua_syntax.specs.Reading.{Reading, Step, Goes, Wrong, Deep, keeps_text, taken, opened, begun_by, by_row, step, by_step, run}
-use Rattle.lua_syntax.specs.Language.{Derives, takes, opens, begins, begins_open, ends, with_one_more}
-use Rattle.lua_syntax.proofs.Completing.{EndsInChunk, completed}
+use Rattle.lua_syntax.proofs.Derivation.{Derives, takes, opens, begins, begins_open, ends, with_one_more}
+use Rattle.lua_syntax.proofs.Completing.{EndsInChunk}
 use Rattle.lua_syntax.proofs.Stacking.{KeepsEnd, keeps_end}
-use Rattle.lua_syntax.proofs.Stepping.{step_takes, step_opens, step_begins, step_passes}
-
--- what a step leaves derives the rest; a step that is refused leaves nothing to derive
-abbrev pub Follows : Step → List Token → Type 0
-Follows (Goes next) more = Derives next.stack next.parts more
-Follows Wrong more = ⊥
-Follows Deep more = Unit {0}
-
-opened_follows : (stack : List Symbol) (token : Token) (parts : Building) (more : List Token) →
-    Derives stack (keeps_text token.kind token.text (with_one_more parts)) more → Follows (opened stack token parts) more
-opened_follows stack token parts more d =
-    elim (nat_lt parts.opened most_open) as (λ (t : Bool). Follows (if t then taken stack token (with_one_more parts) else Deep) more) [ true ↦ d | false ↦ tt ]
-
-pub follows : (stack : List Symbol) (parts : Building) (token : Token) (more : List Token) → Derives stack parts (token ∷ more) → Follows (step stack token parts) more
-follows _ _ _ _ (takes symbol stack body parts token more is d) =
-    subst (λ (s : Step). Follows s more) (step_takes _ _ _ _ _ _ refl (sym is)) d
-follows _ _ _ _ (opens symbol stack body parts token more is d) =
-    subst (λ (s : Step). Follows s more) (step_opens _ _ _ _ _ _ refl (sym is)) (opened_follows (body ++ stack) token parts more d)
-follows _ _ _ _ (begins symbol stack behind body parts token more is operand d) =
-    subst (λ (s : Step). Follows s more) (ap (λ (r : Row). begun_by r (behind ++ stack) token parts) (sym operand) ∙ step_begins _ _ _ _ _ _ refl (sym is)) d
-follows _ _ _ _ (begins_open symbol stack behind body parts token more is operand d) =
-    subst (λ (s : Step). Follows s more) (ap (λ (r : Row). begun_by r (behind ++ stack) token parts) (sym operand) ∙ step_begins _ _ _ _ _ _ refl (sym is))
-    (opened_follows (body ++ (behind ++ stack)) token parts more d)
-follows _ _ _ _ (ends symbol stack action parts token more is d) =
-    subst (λ (s : Step). Follows s more) (step_passes _ _ _ _ _ _ refl (sym is)) (follows stack (act action parts) token more d)
+use Rattle.lua_syntax.proofs.Running.{Leads}
 
 -- what derives the rest behind a step derives all
 abbrev pub Precedes : List Symbol → Building → Token → List Token → Step → Type 0
@@ -82,51 +57,62 @@ unfolding step
 precedes [] parts token more = tt
 precedes (symbol ∷ stack) parts token more = row_precedes symbol stack parts token more (λ action. precedes stack (act action parts) token more) (row symbol parts.opened token.kind token.line) refl
 
--- ---- where reading goes wrong
+-- ---- tokens over which reading goes
 
--- where reading goes wrong, from a stack on
-pub record WrongFrom (stack : List Symbol) (parts : Building) (tokens : List Token) (wrong : Token) : Type 0 where
+-- what comes behind them derives all
+pub leads_derive : (before : List Token) (r last : Reading) (more : List Token) → Leads r before last → Derives last.stack last.parts more → Derives r.stack r.parts (before ++ more)
+leads_derive [] r last more led d = subst (λ (at : Reading). Derives at.stack at.parts more) (sym led) d
+leads_derive (token ∷ before) r last more led d =
+    subst (λ (s : Step). Precedes r.stack r.parts token (before ++ more) s) led.1 (precedes r.stack r.parts token (before ++ more)) (leads_derive before led.0 last more led.2 d)
+
+pub leads_end : (before : List Token) (r last : Reading) → Leads r before last → EndsInChunk r.stack → EndsInChunk last.stack
+leads_end [] r last led fine = subst (λ (at : Reading). EndsInChunk at.stack) led fine
+leads_end (token ∷ before) r last led fine = leads_end before led.0 last led.2 (subst KeepsEnd led.1 (keeps_end r.stack token r.parts fine))
+
+-- where a token is refused so
+pub record RefusedAt (r : Reading) (tokens : List Token) (how : Step) (line : ℕ) : Type 0 where
   pub before : List Token
+  pub refused : Token
   pub behind : List Token
-  pub more : List Token
-  pub split : tokens ≡ before ++ wrong ∷ behind
-  pub goes_on : Derives stack parts (before ++ more)
-  pub stops : (others : List Token) → Derives stack parts (before ++ wrong ∷ others) → ⊥
+  pub last : Reading
+  pub split : tokens ≡ before ++ refused ∷ behind
+  pub on : line ≡ refused.line
+  pub led : Leads r before last
+  pub is : step last.stack refused last.parts ≡ how
 
-later : (stack : List Symbol) (parts : Building) (token : Token) (next : Reading) (tokens : List Token) (wrong : Token) → step stack token parts ≡ Goes next →
-    WrongFrom next.stack next.parts tokens wrong → WrongFrom stack parts (token ∷ tokens) wrong
-later stack parts token next tokens wrong is from = record {
-  before = token ∷ from.before;
-  behind = from.behind;
-  more = from.more;
-  split = ap (λ (rest : List Token). token ∷ rest) from.split;
-  goes_on = subst (λ (s : Step). Precedes stack parts token (from.before ++ from.more) s) is (precedes stack parts token (from.before ++ from.more)) from.goes_on;
-  stops = λ others d. from.stops others (subst (λ (s : Step). Follows s (from.before ++ wrong ∷ others)) is (follows stack parts token (from.before ++ wrong ∷ others) d));
+later : (r next : Reading) (token : Token) (tokens : List Token) (how : Step) (line : ℕ) → step r.stack token r.parts ≡ Goes next → RefusedAt next tokens how line → RefusedAt r (token ∷ tokens) how line
+later r next token tokens how line led at = record {
+  before = token ∷ at.before;
+  refused = at.refused;
+  behind = at.behind;
+  last = at.last;
+  split = ap (λ (rest : List Token). token ∷ rest) at.split;
+  on = at.on;
+  led = (next, led, at.led);
+  is = at.is;
 }
 
-here : (stack : List Symbol) (parts : Building) (token : Token) (tokens : List Token) → EndsInChunk stack → step stack token parts ≡ Wrong →
-    WrongFrom stack parts (token ∷ tokens) token
-here stack parts token tokens fine is =
-    let c = completed stack parts fine in
-    record { before = []; behind = tokens; more = c.0; split = refl; goes_on = c.1; stops = λ others d. subst (λ (s : Step). Follows s others) is (follows stack parts token others d) }
+here : (r : Reading) (token : Token) (tokens : List Token) (how : Step) (line : ℕ) → line ≡ token.line → step r.stack token r.parts ≡ how → RefusedAt r (token ∷ tokens) how line
+here r token tokens how line on is = record { before = []; refused = token; behind = tokens; last = r; split = refl; on = on; led = refl; is = is }
 
--- the first wrong token is on this line
-abbrev pub WrongOn : Reading → List Token → ℕ → Type 0
-WrongOn reading tokens line = (wrong : Token) × (line ≡ wrong.line) × WrongFrom reading.stack reading.parts tokens wrong
+wrong_by_step : (tokens : List Token) (r : Reading) (token : Token) (line : ℕ) → ((next : Reading) → run next tokens ≡ Err (Syntax line) → RefusedAt next tokens Wrong line) →
+    (found : Step) → step r.stack token r.parts ≡ found → by_step found (λ (next : Reading). run next tokens) token.line ≡ Err (Syntax line) → RefusedAt r (token ∷ tokens) Wrong line
+wrong_by_step tokens r token line known (Goes next) led answer = later r next token tokens Wrong line led (known next answer)
+wrong_by_step tokens r token line known Wrong led answer = here r token tokens Wrong line (cc) led
+wrong_by_step tokens r token line known Deep led answer = absurd (cc)
 
--- by the step of the first token, where what is said of the others is known
-by_its_step : (tokens : List Token) (reading : Reading) (token : Token) (line : ℕ) → EndsInChunk reading.stack →
-    ((next : Reading) → EndsInChunk next.stack → run next tokens ≡ Err (Syntax line) → WrongOn next tokens line) →
-    (s : Step) → step reading.stack token reading.parts ≡ s →
-    by_step s (λ (next : Reading). run next tokens) token.line ≡ Err (Syntax line) → WrongOn reading (token ∷ tokens) line
-by_its_step tokens reading token line fine known (Goes next) led is =
-    let from = known next (subst KeepsEnd led (keeps_end reading.stack token reading.parts fine)) is in
-    (from.0, from.1, later reading.stack reading.parts token next tokens from.0 led from.2)
-by_its_step tokens reading token line fine known Wrong led is = (token, cc, here reading.stack reading.parts token tokens fine led)
-by_its_step tokens reading token line fine known Deep led is = absurd (cc)
-
-pub goes_wrong : (tokens : List Token) (reading : Reading) (line : ℕ) → EndsInChunk reading.stack → run reading tokens ≡ Err (Syntax line) → WrongOn reading tokens line
+pub wrong_at : (tokens : List Token) (r : Reading) (line : ℕ) → run r tokens ≡ Err (Syntax line) → RefusedAt r tokens Wrong line
 unfolding run
-goes_wrong [] reading line fine is = absurd (cc)
-goes_wrong (token ∷ tokens) reading line fine is =
-    by_its_step tokens reading token line fine (λ (next : Reading). goes_wrong tokens next line) (step reading.stack token reading.parts) refl is
+wrong_at [] r line answer = absurd (cc)
+wrong_at (token ∷ tokens) r line answer = wrong_by_step tokens r token line (λ next. wrong_at tokens next line) (step r.stack token r.parts) refl answer
+
+deep_by_step : (tokens : List Token) (r : Reading) (token : Token) (line : ℕ) → ((next : Reading) → run next tokens ≡ Err (TooDeep line) → RefusedAt next tokens Deep line) →
+    (found : Step) → step r.stack token r.parts ≡ found → by_step found (λ (next : Reading). run next tokens) token.line ≡ Err (TooDeep line) → RefusedAt r (token ∷ tokens) Deep line
+deep_by_step tokens r token line known (Goes next) led answer = later r next token tokens Deep line led (known next answer)
+deep_by_step tokens r token line known Wrong led answer = absurd (cc)
+deep_by_step tokens r token line known Deep led answer = here r token tokens Deep line (cc) led
+
+pub deep_at : (tokens : List Token) (r : Reading) (line : ℕ) → run r tokens ≡ Err (TooDeep line) → RefusedAt r tokens Deep line
+unfolding run
+deep_at [] r line answer = absurd (cc)
+deep_at (token ∷ tokens) r line answer = deep_by_step tokens r token line (λ next. deep_at tokens next line) (step r.stack token r.parts) refl answer

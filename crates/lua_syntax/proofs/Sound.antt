@@ -1,20 +1,20 @@
 -- A text that is read is a chunk of the grammar, with the tree that it gives.
 use Rattle.std.proofs.Common.{◌≡◌, ℕ, Bool, true, false, List, [], ◌∷◌, ◌++◌, refl, ◌∙◌, sym, subst}
 use Rattle.std.specs.Prelude.{if◌then◌else◌, nat_lt, Ok}
-use Rattle.lua_syntax.specs.declared.tree.Item.{Item}
-use Rattle.lua_syntax.specs.declared.symbol.Action.{Action}
-use Rattle.lua_syntax.specs.declared.symbol.Symbol.{Symbol}
-use Rattle.lua_syntax.specs.declared.symbol.Symbol.TheVariants as s
-use Rattle.lua_syntax.specs.declared.symbol.Row.{Row}
-use Rattle.lua_syntax.specs.declared.symbol.Row.TheVariants.{Takes, Opens, Begins, Passes, Refuses}
+use Rattle.lua_tree.specs.declared.tree.Item.{Item}
+use Rattle.lua_grammar.specs.declared.symbol.Action.{Action}
+use Rattle.lua_grammar.specs.declared.symbol.Symbol.{Symbol}
+use Rattle.lua_grammar.specs.declared.symbol.Symbol.TheVariants as s
+use Rattle.lua_grammar.specs.declared.symbol.Row.{Row}
+use Rattle.lua_grammar.specs.declared.symbol.Row.TheVariants.{Takes, Opens, Begins, Passes, Refuses}
 use Rattle.lua_syntax.specs.declared.building.Building.{Building}
-use Rattle.lua_syntax.specs.declared.piece.Token.{Token}
-use Rattle.lua_syntax.specs.Table.{row, operand_row, most_open}
+use Rattle.lua_tokens.specs.declared.pieces.Token.{Token}
+use Rattle.lua_grammar.specs.Table.{row, operand_row, most_open}
 use Rattle.lua_syntax.specs.Building.{act, nothing_read}
-use Rattle.lua_syntax.specs.Tokens.{tokens, cut, last_line}
+use Rattle.lua_tokens.specs.Tokens.{tokens, cut, last_line}
 use Rattle.lua_syntax.specs.Reading.{Reading, Step, Goes, Wrong, Deep, keeps_text, taken, opened, begun_by, by_row, step, by_step, run, tree_of}
-use Rattle.lua_syntax.specs.Language.{Derives, nothing, takes, opens, begins, begins_open, ends, with_one_more, IsChunk}
-use Rattle.lua_syntax.specs.Grammar.{AreItems, IsChunkOf}
+use Rattle.lua_syntax.proofs.Derivation.{Derives, nothing, takes, opens, begins, begins_open, ends, with_one_more, IsChunk}
+use Rattle.lua_grammar.specs.Grammar.{AreItems, IsChunkOf}
 use Rattle.lua_syntax.proofs.Completing.{EndsInChunk}
 use Rattle.lua_syntax.proofs.Stacking.{KeepsEnd, keeps_end, end_on, LeavesNothing, end_leaves_nothing}
 use Rattle.lua_syntax.proofs.Meaning.{Means, BegunMeans, RowMeans, row_means}

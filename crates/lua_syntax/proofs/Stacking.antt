@@ -1,25 +1,25 @@
 -- Stacks that are reached end in the chunk, and only parts of a chunk stand before it.
 use Rattle.std.proofs.Common.{◌≡◌, ℕ, Bool, true, false, List, [], ◌∷◌, ◌++◌, refl, ap, ◌∙◌, sym, subst, append_assoc}
 use Rattle.std.specs.Prelude.{◌&&◌, if◌then◌else◌, nat_le, nat_lt, Option, Some, None}
-use Rattle.lua_syntax.specs.declared.tree.BinaryOp.{BinaryOp}
-use Rattle.lua_syntax.specs.declared.kind.Kind.{Kind}
-use Rattle.lua_syntax.specs.declared.kind.Kind.TheVariants as k
-use Rattle.lua_syntax.specs.declared.kind.Role.{Role}
-use Rattle.lua_syntax.specs.declared.kind.Role.TheVariants.{Plain, Math, Table}
-use Rattle.lua_syntax.specs.declared.symbol.Mark.{Mark}
-use Rattle.lua_syntax.specs.declared.symbol.Mark.TheVariants as m
-use Rattle.lua_syntax.specs.declared.symbol.Action.{Action}
-use Rattle.lua_syntax.specs.declared.symbol.Action.TheVariants as a
-use Rattle.lua_syntax.specs.declared.symbol.Symbol.{Symbol}
-use Rattle.lua_syntax.specs.declared.symbol.Symbol.TheVariants as s
-use Rattle.lua_syntax.specs.declared.symbol.Row.{Row}
-use Rattle.lua_syntax.specs.declared.symbol.Row.TheVariants.{Takes, Opens, Begins, Passes, Refuses}
+use Rattle.lua_tree.specs.declared.tree.BinaryOp.{BinaryOp}
+use Rattle.lua_tokens.specs.declared.kind.Kind.{Kind}
+use Rattle.lua_tokens.specs.declared.kind.Kind.TheVariants as k
+use Rattle.lua_tokens.specs.declared.kind.Role.{Role}
+use Rattle.lua_tokens.specs.declared.kind.Role.TheVariants.{Plain, Math, Table}
+use Rattle.lua_grammar.specs.declared.symbol.Mark.{Mark}
+use Rattle.lua_grammar.specs.declared.symbol.Mark.TheVariants as m
+use Rattle.lua_grammar.specs.declared.symbol.Action.{Action}
+use Rattle.lua_grammar.specs.declared.symbol.Action.TheVariants as a
+use Rattle.lua_grammar.specs.declared.symbol.Symbol.{Symbol}
+use Rattle.lua_grammar.specs.declared.symbol.Symbol.TheVariants as s
+use Rattle.lua_grammar.specs.declared.symbol.Row.{Row}
+use Rattle.lua_grammar.specs.declared.symbol.Row.TheVariants.{Takes, Opens, Begins, Passes, Refuses}
 use Rattle.lua_syntax.specs.declared.building.Building.{Building}
-use Rattle.lua_syntax.specs.declared.piece.Token.{Token}
-use Rattle.lua_syntax.specs.Table as table
-use Rattle.lua_syntax.specs.Table.{row, operand_row, level, most_open}
+use Rattle.lua_tokens.specs.declared.pieces.Token.{Token}
+use Rattle.lua_grammar.specs.Table as table
+use Rattle.lua_grammar.specs.Table.{row, operand_row, level, most_open}
 use Rattle.lua_syntax.specs.Building.{act}
-use Rattle.lua_syntax.specs.Language.{with_one_more}
+use Rattle.lua_syntax.proofs.Derivation.{with_one_more}
 use Rattle.lua_syntax.specs.Reading.{Step, Goes, Wrong, Deep, taken, opened, begun_by, by_row, step}
 use Rattle.lua_syntax.proofs.Completing.{is_part, EndsInChunk}
 
@@ -108,6 +108,7 @@ row_parts (s.TargetIndex index_line) opened _ line part = refl
 row_parts s.TargetCall opened k.Nil line part = refl
 row_parts s.TargetCall opened _ line part = refl
 row_parts s.Expression opened kind line part = refl
+row_parts s.Key opened kind line part = refl
 row_parts s.Operand opened kind line part = refl
 row_parts (s.Operators least) opened kind line part = operators_parts least (table.binary_of kind) line
 row_parts (s.AfterName role name_line) opened k.Dot line part = after_name_parts role name_line line

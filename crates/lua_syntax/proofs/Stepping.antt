@@ -1,13 +1,13 @@
 -- The step of a stack, by the row of its top.
 use Rattle.std.proofs.Common.{◌≡◌, List, [], ◌∷◌, ◌++◌, ap, ◌∙◌, sym, Err}
-use Rattle.lua_syntax.specs.declared.symbol.Action.{Action}
-use Rattle.lua_syntax.specs.declared.symbol.Symbol.{Symbol}
-use Rattle.lua_syntax.specs.declared.symbol.Row.{Row}
-use Rattle.lua_syntax.specs.declared.symbol.Row.TheVariants.{Takes, Opens, Begins, Passes, Refuses}
+use Rattle.lua_grammar.specs.declared.symbol.Action.{Action}
+use Rattle.lua_grammar.specs.declared.symbol.Symbol.{Symbol}
+use Rattle.lua_grammar.specs.declared.symbol.Row.{Row}
+use Rattle.lua_grammar.specs.declared.symbol.Row.TheVariants.{Takes, Opens, Begins, Passes, Refuses}
 use Rattle.lua_syntax.specs.declared.building.Building.{Building}
-use Rattle.lua_syntax.specs.declared.piece.Token.{Token}
+use Rattle.lua_tokens.specs.declared.pieces.Token.{Token}
 use Rattle.lua_syntax.specs.Refusal.{Syntax, TooDeep}
-use Rattle.lua_syntax.specs.Table.{row}
+use Rattle.lua_grammar.specs.Table.{row}
 use Rattle.lua_syntax.specs.Building.{act}
 use Rattle.lua_syntax.specs.Reading.{Reading, Step, Goes, Wrong, Deep, taken, opened, begun, by_row, by_step, step, run}
 

@@ -1,12 +1,12 @@
 -- A whole text: its tokens up to its end, and then the end.
 use Rattle.std.proofs.Common.{◌≡◌, ℕ, List, [], ◌∷◌, ◌++◌, refl, ◌∙◌, sym, subst, Ok}
-use Rattle.lua_syntax.specs.declared.kind.Kind.TheVariants as k
+use Rattle.lua_tokens.specs.declared.kind.Kind.TheVariants as k
 use Rattle.lua_syntax.specs.declared.building.Building.{Building}
-use Rattle.lua_syntax.specs.declared.symbol.Symbol.{Symbol}
-use Rattle.lua_syntax.specs.declared.symbol.Symbol.TheVariants as s
+use Rattle.lua_grammar.specs.declared.symbol.Symbol.{Symbol}
+use Rattle.lua_grammar.specs.declared.symbol.Symbol.TheVariants as s
 use Rattle.lua_syntax.specs.declared.error.LuaSyntax.{LuaSyntax}
 use Rattle.lua_syntax.specs.Building.{nothing_read}
-use Rattle.lua_syntax.specs.Tokens.{cut, tokens, last_line}
+use Rattle.lua_tokens.specs.Tokens.{cut, tokens, last_line}
 use Rattle.lua_syntax.specs.Reading.{run, tree_of}
 use Rattle.lua_syntax.specs.Steps.{TokenLeadsTo, TokenFailsAt, AllLeadTo, AllFailAt}
 use Rattle.lua_syntax.specs.Refusal.{IsRefused}

@@ -1,17 +1,17 @@
 -- What is made of the parts that were read: the actions of the grammar, over stacks of parts, one for each sort. Most
 -- take the newest. So that each action is defined everywhere, an empty stack counts as `nil`, an empty name or an empty list.
 use Rattle.std.specs.Prelude.{ℕ, List, [], ◌∷◌, ◌++◌, Some, None}
-use Rattle.lua_syntax.specs.declared.tree.Item.TheVariants as item
-use Rattle.lua_syntax.specs.declared.tree.Expr.{Expr}
-use Rattle.lua_syntax.specs.declared.tree.Expr.TheVariants as e
-use Rattle.lua_syntax.specs.declared.tree.Entry.{Entry}
-use Rattle.lua_syntax.specs.declared.tree.Entry.TheVariants as entry
-use Rattle.lua_syntax.specs.declared.tree.LuaStatement.{LuaStatement}
-use Rattle.lua_syntax.specs.declared.tree.LuaStatement.TheVariants as statement
-use Rattle.lua_syntax.specs.declared.tree.LuaBlock.{LuaBlock, roll-LuaBlock}
-use Rattle.lua_syntax.specs.declared.tree.Arm.{roll-Arm}
-use Rattle.lua_syntax.specs.declared.symbol.Action.{Action}
-use Rattle.lua_syntax.specs.declared.symbol.Action.TheVariants as a
+use Rattle.lua_tree.specs.declared.tree.Item.TheVariants as item
+use Rattle.lua_tree.specs.declared.tree.Expr.{Expr}
+use Rattle.lua_tree.specs.declared.tree.Expr.TheVariants as e
+use Rattle.lua_tree.specs.declared.tree.Entry.{Entry}
+use Rattle.lua_tree.specs.declared.tree.Entry.TheVariants as entry
+use Rattle.lua_tree.specs.declared.tree.LuaStatement.{LuaStatement}
+use Rattle.lua_tree.specs.declared.tree.LuaStatement.TheVariants as statement
+use Rattle.lua_tree.specs.declared.tree.LuaBlock.{LuaBlock, roll-LuaBlock}
+use Rattle.lua_tree.specs.declared.tree.Arm.{roll-Arm}
+use Rattle.lua_grammar.specs.declared.symbol.Action.{Action}
+use Rattle.lua_grammar.specs.declared.symbol.Action.TheVariants as a
 use Rattle.lua_syntax.specs.declared.building.Building.{Building}
 use Rattle.lua_syntax.specs.Stacks.{top, below}
 

@@ -1,85 +1,62 @@
--- The language of the table, without a bound on how deep it nests: which tokens a stack of symbols derives. The count of
--- what is open is carried along since symbols keep it, and nothing is refused for it. All that is derived is a chunk of the
--- grammar (`Grammar.antt`).
-use Rattle.std.specs.Prelude.{◌≡◌, ℕ, ◌+◌, List, [], ◌∷◌, ◌++◌, Result, Ok, Err}
-use Rattle.lua_syntax.specs.declared.symbol.Action.{Action}
-use Rattle.lua_syntax.specs.declared.symbol.Symbol.{Symbol}
-use Rattle.lua_syntax.specs.declared.symbol.Row.TheVariants.{Takes, Opens, Begins, Passes}
-use Rattle.lua_syntax.specs.declared.building.Building.{Building}
-use Rattle.lua_syntax.specs.declared.piece.Token.{Token}
-use Rattle.lua_syntax.specs.declared.tree.Item.{Item}
+-- What a text gives, by the grammar alone: which chunks there are, with their trees (`Grammar.antt`), and what each of their tokens
+-- opens (`Nesting.antt`). Nothing here knows how a text is read.
+use Rattle.std.specs.Prelude.{◌≡◌, ℕ, List, [], ◌∷◌, ◌++◌, length, Result, Ok, Err}
+use Rattle.lua_tree.specs.declared.tree.Item.{Item}
+use Rattle.lua_tokens.specs.declared.pieces.Token.{Token}
+use Rattle.lua_tokens.specs.Tokens.{tokens}
+use Rattle.lua_grammar.specs.Grammar.{IsChunkOf}
+use Rattle.lua_grammar.specs.Nesting.{opened_by}
+use Rattle.lua_syntax.specs.Nested.{AllWithin, FirstWithin, IsFirstBeyond, answer_of}
 use Rattle.lua_syntax.specs.Refusal.{LuaRefusal, Syntax, TooDeep}
-use Rattle.lua_syntax.specs.Table.{row, operand_row}
-use Rattle.lua_syntax.specs.Building.{act, nothing_read}
-use Rattle.lua_syntax.specs.Tokens.{tokens}
-use Rattle.lua_syntax.specs.Grammar.{IsChunkOf}
-use Rattle.lua_syntax.specs.Reading.{keeps_text, tree_of}
-use Rattle.lua_syntax.specs.declared.symbol.Symbol.TheVariants as s
-
--- one more is open
-abbrev pub with_one_more : Building → Building
-with_one_more parts = record parts { opened = parts.opened + 1 }
-
--- a stack derives tokens, each rule of the table a production that the next token decides
-pub data Derives : List Symbol → Building → List Token → Type 0 where
-  -- nothing is left to come
-  nothing : (parts : Building) → Derives [] parts []
-  -- the token is taken, and the rest comes from what is left
-  takes : (symbol : Symbol) (stack body : List Symbol) (parts : Building) (token : Token) (tokens : List Token) →
-      row symbol parts.opened token.kind token.line ≡ Takes body →
-      Derives (body ++ stack) (keeps_text token.kind token.text parts) tokens → Derives (symbol ∷ stack) parts (token ∷ tokens)
-  -- the same for a token that opens something
-  opens : (symbol : Symbol) (stack body : List Symbol) (parts : Building) (token : Token) (tokens : List Token) →
-      row symbol parts.opened token.kind token.line ≡ Opens body →
-      Derives (body ++ stack) (keeps_text token.kind token.text (with_one_more parts)) tokens → Derives (symbol ∷ stack) parts (token ∷ tokens)
-  -- an operand begins with the token
-  begins : (symbol : Symbol) (stack behind body : List Symbol) (parts : Building) (token : Token) (tokens : List Token) →
-      row symbol parts.opened token.kind token.line ≡ Begins behind → operand_row parts.opened token.kind token.line ≡ Takes body →
-      Derives (body ++ (behind ++ stack)) (keeps_text token.kind token.text parts) tokens → Derives (symbol ∷ stack) parts (token ∷ tokens)
-  -- an operand begins with a token that opens something
-  begins_open : (symbol : Symbol) (stack behind body : List Symbol) (parts : Building) (token : Token) (tokens : List Token) →
-      row symbol parts.opened token.kind token.line ≡ Begins behind → operand_row parts.opened token.kind token.line ≡ Opens body →
-      Derives (body ++ (behind ++ stack)) (keeps_text token.kind token.text (with_one_more parts)) tokens → Derives (symbol ∷ stack) parts (token ∷ tokens)
-  -- the symbol ends before the token
-  ends : (symbol : Symbol) (stack : List Symbol) (action : Action) (parts : Building) (token : Token) (tokens : List Token) →
-      row symbol parts.opened token.kind token.line ≡ Passes action →
-      Derives stack (act action parts) (token ∷ tokens) → Derives (symbol ∷ stack) parts (token ∷ tokens)
-
--- the tokens, with the end of the text as the last, are a chunk
-abbrev pub IsChunk : List Token → Type 0
-IsChunk tokens = Derives (s.Chunk ∷ []) nothing_read tokens
+use Rattle.lua_syntax.specs.Reading.{tree_of}
 
 -- some tokens behind these make them a chunk. They are any tokens, also some that no text has; for each of these there is one
 -- of the same kind that a text has
 abbrev pub GoesOn : List Token → Type 0
-GoesOn tokens = (more : List Token) × IsChunk (tokens ++ more)
+GoesOn tokens = (more : List Token) × (items : List Item) × IsChunkOf (tokens ++ more) items
 
--- this is the first token with which no chunk goes on. It is the end of the text where the text ends too early
+-- this is the first token with which no chunk goes on: some chunk goes on with those before it, of which none opens one too many.
+-- It is the end of the text where the text ends too early
 pub record IsFirstWrong (tokens : List Token) (wrong : Token) : Type 0 where
   pub before : List Token
   pub behind : List Token
   pub split : tokens ≡ before ++ wrong ∷ behind
-  pub goes_on : GoesOn before
+  pub more : List Token
+  pub items : List Item
+  pub chunk : IsChunkOf (before ++ more) items
+  pub within : FirstWithin (length before) (opened_by chunk)
   pub stops : ¬ GoesOn (before ++ wrong ∷ [])
 
--- some chunk goes on with this token, and so none of these tokens up to it is wrong
-pub record GoesOnWith (tokens : List Token) (token : Token) : Type 0 where
+-- some chunk goes on with this token, and it is the first in it that opens one too many
+pub record IsFirstDeep (tokens : List Token) (deep : Token) : Type 0 where
   pub before : List Token
   pub behind : List Token
-  pub split : tokens ≡ before ++ token ∷ behind
-  pub goes_on : GoesOn (before ++ token ∷ [])
+  pub split : tokens ≡ before ++ deep ∷ behind
+  pub more : List Token
+  pub items : List Item
+  pub chunk : IsChunkOf (before ++ deep ∷ more) items
+  pub first : IsFirstBeyond (length before) (opened_by chunk)
 
--- what these tokens give: they are a chunk; or the line is that of the first token with which no chunk goes on; or it is that
--- of a token that is too deep, with which some chunk goes on
+-- what these tokens give: they are a chunk with this tree, and none opens one too many; or the line is that of the first token with
+-- which no chunk goes on; or it is that of the first token that opens one too many
 abbrev pub IsAnswer : List Token → Result (List Item) LuaRefusal → Type 0
-IsAnswer tokens (Ok items) = IsChunk tokens
+IsAnswer tokens (Ok items) = (chunk : IsChunkOf tokens items) × AllWithin (opened_by chunk)
 IsAnswer tokens (Err (Syntax line)) = (wrong : Token) × (line ≡ wrong.line) × IsFirstWrong tokens wrong
-IsAnswer tokens (Err (TooDeep line)) = (deep : Token) × (line ≡ deep.line) × GoesOnWith tokens deep
-
--- what the table derives is a chunk of the grammar
-abbrev pub DerivedIsAChunk : Type 0
-DerivedIsAChunk = (tokens : List Token) → IsChunk tokens → (items : List Item) × IsChunkOf tokens items
+IsAnswer tokens (Err (TooDeep line)) = (deep : Token) × (line ≡ deep.line) × IsFirstDeep tokens deep
 
 -- each text is answered so; the end of the text is a token on the last line
 abbrev pub TextsAnswer : Type 0
 TextsAnswer = (text : List ℕ) → IsAnswer (tokens text) (tree_of text)
+
+-- a text whose tokens are a chunk gives the tree of the chunk, or the line of the first token that opens one too many
+abbrev pub ChunksAreRead : Type 0
+ChunksAreRead = (text : List ℕ) (items : List Item) (chunk : IsChunkOf (tokens text) items) → tree_of text ≡ answer_of (tokens text) (opened_by chunk) items
+
+-- a text that begins as a chunk does, up to the first token in it that opens one too many, is too deep there, whatever comes behind
+abbrev pub DeepTextsAreRefused : Type 0
+DeepTextsAreRefused = (text : List ℕ) (before behind more : List Token) (deep : Token) (items : List Item) (chunk : IsChunkOf (before ++ deep ∷ more) items) →
+    tokens text ≡ before ++ deep ∷ behind → IsFirstBeyond (length before) (opened_by chunk) → tree_of text ≡ Err (TooDeep deep.line)
+
+-- the grammar gives one tree at most
+abbrev pub ChunksHaveOneTree : Type 0
+ChunksHaveOneTree = (tokens : List Token) (items others : List Item) → IsChunkOf tokens items → IsChunkOf tokens others → items ≡ others

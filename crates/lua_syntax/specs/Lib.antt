@@ -1,11 +1,7 @@
 pub mod Stacks
-pub mod Table
 pub mod Refusal
 pub mod Building
-pub mod Tokens
 pub mod Reading
 pub mod Steps
-pub mod Defines
-pub mod Grammar
+pub mod Nested
 pub mod Language
-pub mod Plain

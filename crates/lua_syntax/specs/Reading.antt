@@ -2,20 +2,20 @@
 -- the symbol on top takes it, or ends, or begins an operand with it, or refuses it. A token that is refused is
 -- the first with which no chunk goes on (`Language.antt`).
 use Rattle.std.specs.Prelude.{ℕ, ◌+◌, if◌then◌else◌, nat_lt, List, [], ◌∷◌, ◌++◌, Result, Ok, Err}
-use Rattle.lua_syntax.specs.declared.tree.Item.{Item}
-use Rattle.lua_syntax.specs.declared.kind.Kind.{Kind}
-use Rattle.lua_syntax.specs.declared.kind.Kind.TheVariants as k
-use Rattle.lua_syntax.specs.declared.symbol.Action.{Action}
-use Rattle.lua_syntax.specs.declared.symbol.Symbol.{Symbol}
-use Rattle.lua_syntax.specs.declared.symbol.Symbol.TheVariants as s
-use Rattle.lua_syntax.specs.declared.symbol.Row.{Row}
-use Rattle.lua_syntax.specs.declared.symbol.Row.TheVariants.{Takes, Opens, Begins, Passes, Refuses}
+use Rattle.lua_tree.specs.declared.tree.Item.{Item}
+use Rattle.lua_tokens.specs.declared.kind.Kind.{Kind}
+use Rattle.lua_tokens.specs.declared.kind.Kind.TheVariants as k
+use Rattle.lua_grammar.specs.declared.symbol.Action.{Action}
+use Rattle.lua_grammar.specs.declared.symbol.Symbol.{Symbol}
+use Rattle.lua_grammar.specs.declared.symbol.Symbol.TheVariants as s
+use Rattle.lua_grammar.specs.declared.symbol.Row.{Row}
+use Rattle.lua_grammar.specs.declared.symbol.Row.TheVariants.{Takes, Opens, Begins, Passes, Refuses}
 use Rattle.lua_syntax.specs.declared.building.Building.{Building}
-use Rattle.lua_syntax.specs.declared.piece.Token.{Token}
+use Rattle.lua_tokens.specs.declared.pieces.Token.{Token}
 use Rattle.lua_syntax.specs.Refusal.{LuaRefusal, Syntax, TooDeep}
-use Rattle.lua_syntax.specs.Table.{row, operand_row, most_open}
+use Rattle.lua_grammar.specs.Table.{row, operand_row, most_open}
 use Rattle.lua_syntax.specs.Building.{act, nothing_read}
-use Rattle.lua_syntax.specs.Tokens.{tokens}
+use Rattle.lua_tokens.specs.Tokens.{tokens}
 
 -- what is still to come, and what was read
 pub record Reading : Type 0 where

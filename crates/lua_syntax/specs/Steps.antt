@@ -3,10 +3,10 @@ use Rattle.std.specs.Prelude.{◌≡◌, ℕ, List, ◌∷◌, ◌++◌, Result,
 use Rattle.tis_base.specs.declared.memory.NoMemory as memory
 use Rattle.lua_syntax.specs.declared.error.LuaSyntax.{LuaSyntax}
 use Rattle.lua_syntax.specs.Refusal.{IsRefused}
-use Rattle.lua_syntax.specs.declared.piece.Piece.{Piece}
-use Rattle.lua_syntax.specs.declared.piece.Token.{Token}
-use Rattle.lua_syntax.specs.Tokens.{onto_tokens, cut}
-use Rattle.lua_syntax.specs.declared.symbol.Symbol.{Symbol}
+use Rattle.lua_tokens.specs.declared.pieces.Piece.{Piece}
+use Rattle.lua_tokens.specs.declared.pieces.Token.{Token}
+use Rattle.lua_tokens.specs.Tokens.{onto_tokens, cut}
+use Rattle.lua_grammar.specs.declared.symbol.Symbol.{Symbol}
 use Rattle.lua_syntax.specs.declared.building.Building.{Building}
 use Rattle.lua_syntax.specs.declared.reading.Led.{Led}
 use Rattle.lua_syntax.specs.declared.reading.Led.TheVariants as led

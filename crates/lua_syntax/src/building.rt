@@ -1,7 +1,6 @@
 //! The parts of the tree that were read and wait for what they are parts of.
 use crate::stack::Stack;
-use crate::text::Text;
-use crate::tree::{Arm, Entry, Expr, Item, LuaStatement};
+use lua_tree::{Arm, Entry, Expr, Item, LuaStatement, Text};
 use sqlite_items::Items;
 
 /// The parts that were read, and how many constructs are open.

@@ -4,8 +4,8 @@ ghost use Rattle.lua_syntax.specs.Building as spec;
 
 use crate::building::Building;
 use crate::parts::push_at_end;
-use crate::symbol::Action;
-use crate::tree::{BinaryOp, Entry, Expr, UnaryOp};
+use lua_grammar::Action;
+use lua_tree::{BinaryOp, Entry, Expr, UnaryOp};
 use sqlite_items::{Boxed, Items};
 use std::alloc::Global;
 use tis_base::NoMemory;

@@ -3,10 +3,11 @@
 //! [`parse`] gives the tree of a text ([`Chunk`], [`Item`], [`LuaStatement`], [`Expr`]), or says what is
 //! wrong with it and on which line: `Syntax` names a token that can't come where it stands, or the last
 //! line where more had to come, and `TooDeep` a token that would open one construct more than 64.
-//! The layer above, which evaluates the tree, relies on this: the tree is `tree_of` of the bytes, a
-//! definition in `specs/Reading.antt`, and it is the one that the grammar gives for the tokens, form by form
-//! (`specs/Grammar.antt`). `laws` says that, and that the token that `Syntax` names is the first with which no
-//! chunk goes on: some chunk begins with what stands before it.
+//! The layer above, which evaluates the tree, relies on this: the tree is `tree_of` of the bytes, and what `tree_of`
+//! gives is what the grammar says, which knows nothing of reading. `laws` has it whole: a text is read exactly
+//! where it is a chunk of the grammar that isn't nested too deep, and then with the one tree that the grammar
+//! gives; `Syntax` names the first token with which no chunk goes on, and `TooDeep` the first that opens
+//! one construct too many (`specs/Language.antt`).
 //!
 //! ```text
 //! let chunk = parse(alloc, b"function f() return math.floor(7 / 2) end")?;
@@ -18,37 +19,25 @@
 //! the symbols that it ends, and each of these was put there by a token before. No part is copied. At most 64
 //! constructs are open at once, so that a tree can be walked and dropped by recursion.
 //!
-//! It doesn't evaluate anything, doesn't look names up, and names one fault alone, the first.
+//! The tree is of `lua_tree`, which a layer that doesn't read texts can stand on alone; the tokens are of `lua_tokens`, the
+//! grammar and the table of `lua_grammar`. Nothing here evaluates anything or looks names up, and one fault alone is named, the first.
 #![tactic(auto)]
 
 mod building;
-mod chunk;
-mod cutting;
 mod error;
 mod expression_actions;
-mod expressions;
-mod kind;
 pub mod laws;
 mod parsing;
 mod parts;
-mod piece;
 mod reading;
-mod row;
 mod stack;
 mod statement_actions;
-mod statements;
-mod strings;
-mod symbol;
-mod targets;
-mod text;
-mod tree;
-mod words;
 
-pub use chunk::Chunk;
 pub use error::LuaSyntax;
+pub use lua_tree::{
+    Arm, BinaryOp, Chunk, Entry, Expr, Item, LuaBlock, LuaStatement, Text, UnaryOp,
+};
 pub use parsing::parse;
-pub use text::Text;
-pub use tree::{Arm, BinaryOp, Entry, Expr, Item, LuaBlock, LuaStatement, UnaryOp};
 
 #[cfg(test)]
 mod tests;

@@ -1,22 +1,18 @@
 //! Texts to chunks.
 ghost use Rattle.std.specs.Prelude.{◌≡◌, ◌<◌, ◌≤◌, ◌+◌, [], ◌∷◌, ◌++◌, length, take, drop, Ok, Err, IfOk, IfErr, OnOk};
-ghost use Rattle.lua_syntax.specs.Plain.{plain_answer, plain_items};
+ghost use Rattle.lua_tree.specs.Plain.{plain_items};
 ghost use Rattle.lua_syntax.specs.Reading.{tree_of, run};
 ghost use Rattle.lua_syntax.specs.Steps.{TokenLeadsTo, TokenFailsAt, LeadsTo, FailsAt, AllLeadTo, AllFailAt};
-ghost use Rattle.lua_syntax.specs.Refusal.{IsRefused};
-ghost use Rattle.lua_syntax.specs.Tokens as spec;
+ghost use Rattle.lua_syntax.specs.Refusal.{IsRefused, plain_answer};
+ghost use Rattle.lua_tokens.specs.Tokens as spec;
 
 use crate::building::Building;
-use crate::chunk::Chunk;
-use crate::cutting::piece;
 use crate::error::LuaSyntax;
-use crate::kind::Kind;
-use crate::piece::{Piece, Token};
 use crate::reading::{Led, step};
 use crate::stack::Stack;
-use crate::symbol::Symbol;
-use crate::text::Text;
-use crate::words::byte;
+use lua_grammar::Symbol;
+use lua_tokens::{Kind, Piece, Token, byte, piece};
+use lua_tree::{Chunk, Text};
 use std::alloc::Global;
 
 // How many line ends there are.
@@ -124,7 +120,7 @@ fn feed_all(
 
 /// The chunk of a text. Without a tree, what is wrong with the text and on which line. Time and memory
 /// grow with the text.
-#[tactic(auto, unfolding(crate::specs::Reading::tree_of, crate::specs::Tokens::tokens, crate::specs::Reading::run))]
+#[tactic(auto, unfolding(crate::specs::Reading::tree_of, lua_tokens::specs::Tokens::tokens, crate::specs::Reading::run))]
 pub fn parse(alloc: Global, bytes: &[u8]) -> Result<Chunk, LuaSyntax>
     ensures tree { IfOk result (λ chunk. tree_of bytes.now ≡ Ok chunk) }
     ensures plain { IfOk result (λ chunk. plain_answer (tree_of bytes.now) ≡ Ok (plain_items chunk)) }

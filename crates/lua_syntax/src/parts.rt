@@ -5,8 +5,7 @@ ghost use Rattle.lua_syntax.specs.Building as spec;
 
 use crate::building::Building;
 use crate::stack::Stack;
-use crate::text::Text;
-use crate::tree::{Arm, Entry, Expr, LuaBlock, LuaStatement};
+use lua_tree::{Arm, Entry, Expr, LuaBlock, LuaStatement, Text};
 use sqlite_items::Items;
 use std::alloc::Global;
 use tis_base::NoMemory;

@@ -4,15 +4,15 @@ ghost use Rattle.lua_syntax.specs.Reading as spec;
 ghost use Rattle.lua_syntax.specs.Steps.{Steps};
 
 use crate::building::Building;
-use crate::expressions::{MOST_OPEN, operand_row};
-use crate::kind::Kind;
-use crate::piece::Token;
-use crate::row::row;
 use crate::stack::Stack;
-use crate::symbol::{Body, Row, Symbol};
-use crate::text::Text;
+use lua_grammar::{Body, Row, Symbol, operand_row, row};
+use lua_tokens::{Kind, Token};
+use lua_tree::Text;
 use std::alloc::Global;
 use tis_base::NoMemory;
+
+// How many may be open at once.
+const MOST_OPEN: usize = 64;
 
 /// What a token led to.
 #[derive(Clone, Copy)]

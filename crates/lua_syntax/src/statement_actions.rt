@@ -4,8 +4,8 @@ ghost use Rattle.lua_syntax.specs.Building as spec;
 
 use crate::building::Building;
 use crate::parts::push_at_end;
-use crate::symbol::Action;
-use crate::tree::{Arm, Item, LuaStatement};
+use lua_grammar::Action;
+use lua_tree::{Arm, Item, LuaStatement};
 use sqlite_items::Items;
 use std::alloc::Global;
 use std::mem;

@@ -1,6 +1,6 @@
 -- What a refusal blames: the first wrong line, or what is missing.
 use Rattle.std.specs.Prelude.{◌≡◌, ℕ, ◌≤◌, ◌⊎◌, List, length}
-use Rattle.net_syntax.specs.Tree.{NetRefusal, BadLine, TooDeep, StrayEnd, Unclosed}
+use Rattle.net_syntax.specs.Refusals.{NetRefusal, BadLine, TooDeep, StrayEnd, Unclosed}
 use Rattle.net_syntax.specs.Forms as forms
 use Rattle.net_syntax.specs.Forms.{LineForm, Line}
 use Rattle.net_syntax.specs.Grammar.{GoesOn, GoesOnDeeper, IsFirstWrong, IsCloser, IsUnclosed}

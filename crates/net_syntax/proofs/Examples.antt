@@ -4,13 +4,17 @@ use Rattle.std.specs.Prelude.{Ok, Err, codes, pos, negsuc}
 use Rattle.std.specs.Fmt.{digits}
 use Rattle.tis_base.specs.declared.tiles.TileKind.TheVariants.{Compute, Memory, Damaged}
 use Rattle.tis_base.specs.Tiles.{Tiles}
-use Rattle.net_syntax.specs.declared.tree.Var.TheVariants.{X, Y}
-use Rattle.net_syntax.specs.declared.tree.Test.TheVariants.{Zero, NotZero, Negative, Positive, NotPositive, NotNegative}
-use Rattle.net_syntax.specs.Tree.{Name, Get, GetAdd, GetSub, Put, PutNumber, Move, Set, Add, Sub, Neg, Double, Copy, Swap, If, While, Count, Block, Empty, Then, Net, BadLine, TooDeep, StrayEnd, Unclosed}
-use Rattle.net_syntax.specs.Forms.{followed_by, number_of, value_of, tiles_of, next_word, at_end, tiles_to_end, path_of, via_of, at_of, port_of, channel_of, process_of, name_and_var, put_of, two_names, var_and_number, one_var, two_vars, test_against_zero, version_of, row_of, statement_of, keyword_of, said, form_of, lines_of, lines_up_to, Version, Malformed}
-use Rattle.net_syntax.specs.Words.{non_blank_lines}
+use Rattle.net_tree.specs.declared.tree.Var.TheVariants.{X, Y}
+use Rattle.net_tree.specs.declared.tree.Test.TheVariants.{Zero, NotZero, Negative, Positive, NotPositive, NotNegative}
+use Rattle.net_tree.specs.Tree.{Name, Get, GetAdd, GetSub, Put, PutNumber, Move, Set, Add, Sub, Neg, Double, Copy, Swap, If, While, Count, Block, Empty, Then, Net}
+use Rattle.net_syntax.specs.Refusals.{BadLine, TooDeep, StrayEnd, Unclosed}
+use Rattle.tis_words.specs.Parts.{followed_by, next_word, at_end}
+use Rattle.tis_words.specs.Numerals.{number_of, value_of}
+use Rattle.net_syntax.specs.Forms.{tiles_of, tiles_to_end, path_of, via_of, at_of, port_of, channel_of, process_of, name_and_var, put_of, two_names, var_and_number, one_var, two_vars, test_against_zero, version_of, row_of, statement_of, keyword_of, said, form_of, lines_of, lines_up_to, Version, Malformed}
+use Rattle.tis_words.specs.declared.comments.Comments.TheVariants.{BehindHash}
+use Rattle.tis_words.specs.Lines.{non_blank_lines}
 use Rattle.net_syntax.specs.Reading.{and_then, after_lines, net_of}
-use Rattle.net_syntax.specs.NetText.{net_text}
+use Rattle.net_tree.specs.NetText.{net_text}
 
 -- the lines in front of a process's body
 abbrev head : List ℕ
@@ -117,7 +121,7 @@ unfolding followed_by number_of value_of tiles_of next_word at_end tiles_to_end 
 declarations = (refl, refl, refl)
 
 -- past the last line that may say something every line is wrong
-past : lines_up_to 1 (non_blank_lines (codes "\nnet 1\n#\nend\n")) ≡ record { number = 2; form = Version } ∷ record { number = 4; form = Malformed } ∷ []
+past : lines_up_to 1 (non_blank_lines BehindHash (codes "\nnet 1\n#\nend\n")) ≡ record { number = 2; form = Version } ∷ record { number = 4; form = Malformed } ∷ []
 unfolding followed_by next_word at_end version_of keyword_of said form_of lines_up_to
 past = refl
 

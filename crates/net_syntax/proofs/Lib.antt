@@ -1,13 +1,9 @@
 mod Examples
-mod Views
-mod Cutting
-mod Numerals
 mod Paths
 mod Reversed
 mod Limits
 mod Derived
 mod Plain
-mod Writing
 mod Sound
 mod Blamed
 mod Open

@@ -1,17 +1,17 @@
 -- The lines that may say something, one after the other.
-use Rattle.std.proofs.Common.{◌≡◌, ℕ, zero, suc, ◌+◌, ◌-◌, List, [], ◌∷◌, refl, sym, ap, subst, ◌∙◌, arith}
+use Rattle.std.proofs.Common.{◌≡◌, ℕ, zero, suc, ◌-◌, List, [], ◌∷◌, refl, sym, ap, subst, ◌∙◌, arith}
 use Rattle.std.specs.Prelude.{Result, Ok, Err}
-use Rattle.tis_base.specs.Lines.{text_lines}
 use Rattle.net_syntax.specs.declared.form.LineForm as held
-use Rattle.net_syntax.specs.Words.{Words, NonBlank, non_blank_from}
+use Rattle.tis_words.specs.Words.{Words}
+use Rattle.tis_words.specs.Lines.{NonBlank}
 use Rattle.net_syntax.specs.Forms.{LineForm, Line, form_of, lines_up_to}
 use Rattle.net_syntax.specs.FormView.{form_view}
 use Rattle.net_syntax.specs.declared.error.NetError.{NetError}
 use Rattle.net_syntax.specs.declared.error.NetError.TheVariants as errors
-use Rattle.net_syntax.specs.Tree.{NetRefusal, BadLine, TooDeep, StrayEnd, Unclosed}
+use Rattle.net_syntax.specs.Refusals.{NetRefusal, BadLine, TooDeep, StrayEnd, Unclosed}
 use Rattle.net_syntax.specs.Reading.{Configuration, after_line, after_lines, and_then, after_version, after_all, tiles_of_line, head_of_line, net_with}
 use Rattle.net_syntax.specs.ReaderView.{IsError}
-use Rattle.net_syntax.specs.UnreadView.{IsNext, form_within, lines_left}
+use Rattle.net_syntax.specs.UnreadView.{IsNext, form_within}
 
 step : (most number : ℕ) (words : Words) (others : List NonBlank) → lines_up_to most (record { number = number; words = words } ∷ others) ≡ record { number = number; form = form_within most (form_of words) } ∷ lines_up_to (most - 1) others
 unfolding lines_up_to
@@ -22,10 +22,10 @@ step (suc most) number words others = ap (λ (n : ℕ). record { number = number
     less most = omega arith
 
 -- the next line, and the lines behind it
-pub lines_cut : (most before number : ℕ) (text behind : List ℕ) (form : held.LineForm) → IsNext (non_blank_from (before + 1) (text_lines text)) form number behind → lines_left most before text ≡ record { number = number; form = form_within most (form_view form) } ∷ lines_left (most - 1) number behind
-lines_cut most before number text behind form next =
-    ap (lines_up_to most) next.2 ∙ step most number next.0 (non_blank_from (number + 1) (text_lines behind))
-    ∙ ap (λ (f : LineForm). record { number = number; form = form_within most f } ∷ lines_left (most - 1) number behind) (sym next.1)
+pub lines_cut : (most number : ℕ) (lines behind : List NonBlank) (form : held.LineForm) → IsNext lines form number behind → lines_up_to most lines ≡ record { number = number; form = form_within most (form_view form) } ∷ lines_up_to (most - 1) behind
+lines_cut most number lines behind form next =
+    ap (lines_up_to most) next.2 ∙ step most number next.0 behind
+    ∙ ap (λ (f : LineForm). record { number = number; form = form_within most f } ∷ lines_up_to (most - 1) behind) (sym next.1)
 
 nothing : (most : ℕ) → lines_up_to most [] ≡ []
 unfolding lines_up_to
@@ -33,8 +33,8 @@ nothing zero = refl
 nothing (suc most) = refl
 
 -- no line is left
-pub no_line : (most before : ℕ) (text : List ℕ) → non_blank_from (before + 1) (text_lines text) ≡ [] → lines_left most before text ≡ []
-no_line most before text none = ap (lines_up_to most) none ∙ nothing most
+pub no_line : (most : ℕ) (lines : List NonBlank) → lines ≡ [] → lines_up_to most lines ≡ []
+no_line most lines none = ap (lines_up_to most) none ∙ nothing most
 
 -- ---- one line more
 
@@ -56,38 +56,38 @@ error_stays errors.NoMemory sofar number form lines is = tt
 
 -- ---- as the code meets them
 
-pub line_passed : (seen more : Configuration) (most before number left : ℕ) (text behind : List ℕ) (form : held.LineForm) (within : LineForm) → IsNext (non_blank_from (before + 1) (text_lines text)) form number behind → within ≡ form_within most (form_view form) → left ≡ most - 1 → after_line seen.net seen.open_process number within ≡ Ok more → after_lines seen (lines_left most before text) ≡ after_lines more (lines_left left number behind)
-line_passed seen more most before number left text behind form within next within_is left_is is =
-    ap (after_lines seen) (lines_cut most before number text behind form next)
-    ∙ goes_on seen more number (form_within most (form_view form)) (lines_left (most - 1) number behind) (ap (after_line seen.net seen.open_process number) (sym within_is) ∙ is)
-    ∙ ap (λ (n : ℕ). after_lines more (lines_left n number behind)) (sym left_is)
+pub line_passed : (seen more : Configuration) (most number left : ℕ) (lines behind : List NonBlank) (form : held.LineForm) (within : LineForm) → IsNext lines form number behind → within ≡ form_within most (form_view form) → left ≡ most - 1 → after_line seen.net seen.open_process number within ≡ Ok more → after_lines seen (lines_up_to most lines) ≡ after_lines more (lines_up_to left behind)
+line_passed seen more most number left lines behind form within next within_is left_is is =
+    ap (after_lines seen) (lines_cut most number lines behind form next)
+    ∙ goes_on seen more number (form_within most (form_view form)) (lines_up_to (most - 1) behind) (ap (after_line seen.net seen.open_process number) (sym within_is) ∙ is)
+    ∙ ap (λ (n : ℕ). after_lines more (lines_up_to n behind)) (sym left_is)
 
-pub line_refused : (error : NetError) (seen : Configuration) (most before number : ℕ) (text behind : List ℕ) (form : held.LineForm) (within : LineForm) → IsNext (non_blank_from (before + 1) (text_lines text)) form number behind → within ≡ form_within most (form_view form) → IsError error (after_line seen.net seen.open_process number within) → IsError error (after_lines seen (lines_left most before text))
-line_refused error seen most before number text behind form within next within_is is =
-    subst (λ (l : List Line). IsError error (after_lines seen l)) (sym (lines_cut most before number text behind form next))
-    (error_stays error seen number (form_within most (form_view form)) (lines_left (most - 1) number behind) (subst (λ (f : LineForm). IsError error (after_line seen.net seen.open_process number f)) within_is is))
+pub line_refused : (error : NetError) (seen : Configuration) (most number : ℕ) (lines behind : List NonBlank) (form : held.LineForm) (within : LineForm) → IsNext lines form number behind → within ≡ form_within most (form_view form) → IsError error (after_line seen.net seen.open_process number within) → IsError error (after_lines seen (lines_up_to most lines))
+line_refused error seen most number lines behind form within next within_is is =
+    subst (λ (l : List Line). IsError error (after_lines seen l)) (sym (lines_cut most number lines behind form next))
+    (error_stays error seen number (form_within most (form_view form)) (lines_up_to (most - 1) behind) (subst (λ (f : LineForm). IsError error (after_line seen.net seen.open_process number f)) within_is is))
 
-pub version_missing : (next most before : ℕ) (text : List ℕ) → non_blank_from (before + 1) (text_lines text) ≡ [] → after_version next (lines_left most before text) ≡ Err (BadLine next)
-version_missing next most before text none = ap (after_version next) (no_line most before text none)
+pub version_missing : (next most : ℕ) (lines : List NonBlank) → lines ≡ [] → after_version next (lines_up_to most lines) ≡ Err (BadLine next)
+version_missing next most lines none = ap (after_version next) (no_line most lines none)
 
-pub version_cut : (next most before number left : ℕ) (text behind : List ℕ) (form : held.LineForm) (within : LineForm) → IsNext (non_blank_from (before + 1) (text_lines text)) form number behind → within ≡ form_within most (form_view form) → left ≡ most - 1 → after_version next (lines_left most before text) ≡ and_then (tiles_of_line number within) (net_with (lines_left left number behind))
-version_cut next most before number left text behind form within following within_is left_is =
-    ap (after_version next) (lines_cut most before number text behind form following)
-    ∙ ap (λ (f : LineForm). and_then (tiles_of_line number f) (net_with (lines_left (most - 1) number behind))) (sym within_is)
-    ∙ ap (λ (n : ℕ). and_then (tiles_of_line number within) (net_with (lines_left n number behind))) (sym left_is)
+pub version_cut : (next most number left : ℕ) (lines behind : List NonBlank) (form : held.LineForm) (within : LineForm) → IsNext lines form number behind → within ≡ form_within most (form_view form) → left ≡ most - 1 → after_version next (lines_up_to most lines) ≡ and_then (tiles_of_line number within) (net_with (lines_up_to left behind))
+version_cut next most number left lines behind form within following within_is left_is =
+    ap (after_version next) (lines_cut most number lines behind form following)
+    ∙ ap (λ (f : LineForm). and_then (tiles_of_line number f) (net_with (lines_up_to (most - 1) behind))) (sym within_is)
+    ∙ ap (λ (n : ℕ). and_then (tiles_of_line number within) (net_with (lines_up_to n behind))) (sym left_is)
 
-pub all_missing : (next most before : ℕ) (text : List ℕ) → non_blank_from (before + 1) (text_lines text) ≡ [] → after_all next (lines_left most before text) ≡ Err (BadLine next)
-all_missing next most before text none = ap (after_all next) (no_line most before text none)
+pub all_missing : (next most : ℕ) (lines : List NonBlank) → lines ≡ [] → after_all next (lines_up_to most lines) ≡ Err (BadLine next)
+all_missing next most lines none = ap (after_all next) (no_line most lines none)
 
-pub all_cut : (next most before number left : ℕ) (text behind : List ℕ) (form : held.LineForm) (within : LineForm) → IsNext (non_blank_from (before + 1) (text_lines text)) form number behind → within ≡ form_within most (form_view form) → left ≡ most - 1 → after_all next (lines_left most before text) ≡ head_of_line number within (after_version next (lines_left left number behind))
-all_cut next most before number left text behind form within following within_is left_is =
-    ap (after_all next) (lines_cut most before number text behind form following)
-    ∙ ap (λ (f : LineForm). head_of_line number f (after_version next (lines_left (most - 1) number behind))) (sym within_is)
-    ∙ ap (λ (n : ℕ). head_of_line number within (after_version next (lines_left n number behind))) (sym left_is)
+pub all_cut : (next most number left : ℕ) (lines behind : List NonBlank) (form : held.LineForm) (within : LineForm) → IsNext lines form number behind → within ≡ form_within most (form_view form) → left ≡ most - 1 → after_all next (lines_up_to most lines) ≡ head_of_line number within (after_version next (lines_up_to left behind))
+all_cut next most number left lines behind form within following within_is left_is =
+    ap (after_all next) (lines_cut most number lines behind form following)
+    ∙ ap (λ (f : LineForm). head_of_line number f (after_version next (lines_up_to (most - 1) behind))) (sym within_is)
+    ∙ ap (λ (n : ℕ). head_of_line number within (after_version next (lines_up_to n behind))) (sym left_is)
 
 pub nothing_more : (seen : Configuration) → after_lines seen [] ≡ Ok seen
 unfolding after_lines
 nothing_more seen = refl
 
-pub all_passed : (seen : Configuration) (most before : ℕ) (text : List ℕ) → non_blank_from (before + 1) (text_lines text) ≡ [] → after_lines seen (lines_left most before text) ≡ Ok seen
-all_passed seen most before text none = ap (after_lines seen) (no_line most before text none) ∙ nothing_more seen
+pub all_passed : (seen : Configuration) (most : ℕ) (lines : List NonBlank) → lines ≡ [] → after_lines seen (lines_up_to most lines) ≡ Ok seen
+all_passed seen most lines none = ap (after_lines seen) (no_line most lines none) ∙ nothing_more seen

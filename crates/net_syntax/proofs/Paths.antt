@@ -2,8 +2,9 @@
 use Rattle.std.proofs.Common.{◌≡◌, ℕ, ◌<◌, ◌≤◌, Bool, true, false, cond, List, [], ◌∷◌, ◌++◌, length, refl, sym, ap, ◌∙◌, arith, append-nil, append_assoc, length-append}
 use Rattle.std.specs.Prelude.{Option, Some, None, option_map, option_and_then, nat_le, IsTrue}
 use Rattle.std.proofs.lemmas.Bool.Decides.{nat_tests}
-use Rattle.net_syntax.specs.Words.{Words}
-use Rattle.net_syntax.specs.Forms.{number_of, short_path, tiles_to_end, path_of}
+use Rattle.tis_words.specs.Words.{Words}
+use Rattle.tis_words.specs.Numerals.{number_of}
+use Rattle.net_syntax.specs.Forms.{short_path, tiles_to_end, path_of}
 
 -- what is read of a path behind these tiles
 abbrev pub path_behind : List ℕ → Words → Option (List ℕ)

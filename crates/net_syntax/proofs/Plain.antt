@@ -5,12 +5,16 @@ use Rattle.std.specs.Option.{unwrap_or, option_or}
 use Rattle.net_syntax.specs.declared.keyword.Keyword.{Keyword}
 use Rattle.net_syntax.specs.declared.keyword.Keyword.TheVariants as word
 use Rattle.tis_base.specs.Tiles.{Tiles}
-use Rattle.net_syntax.specs.declared.tree.Var.{Var}
-use Rattle.net_syntax.specs.declared.tree.Test.{Test}
-use Rattle.net_syntax.specs.Tree.{Name, Statement, Get, GetAdd, GetSub, Put, PutNumber, Move, Set, Add, Sub, Neg, Double, Copy, Swap, If, While, Count}
-use Rattle.net_syntax.specs.Words.{Words, NonBlank, non_blank_lines}
+use Rattle.net_tree.specs.declared.tree.Var.{Var}
+use Rattle.net_tree.specs.declared.tree.Test.{Test}
+use Rattle.net_tree.specs.Tree.{Name, Statement, Get, GetAdd, GetSub, Put, PutNumber, Move, Set, Add, Sub, Neg, Double, Copy, Swap, If, While, Count}
+use Rattle.tis_words.specs.Words.{Words}
+use Rattle.tis_words.specs.declared.comments.Comments.TheVariants.{BehindHash}
+use Rattle.tis_words.specs.Lines.{NonBlank, non_blank_lines}
 use Rattle.net_syntax.specs.Forms as forms
-use Rattle.net_syntax.specs.Forms.{LineForm, Line, followed_by, next_word, at_end, name_of, var_of, value_of, sent_on, put_of, statement_of, version_of, name_and_var, two_names, var_and_number, one_var, two_vars, tiles_of, port_of, channel_of, process_of, test_against_zero, exactly, said, form_of, keyword_of, line_of, line_past, lines_up_to, lines_of}
+use Rattle.net_syntax.specs.Forms.{LineForm, Line, name_of, var_of, sent_on, put_of, statement_of, version_of, name_and_var, two_names, var_and_number, one_var, two_vars, tiles_of, port_of, channel_of, process_of, test_against_zero, said, form_of, keyword_of, line_of, line_past, lines_up_to, lines_of}
+use Rattle.tis_words.specs.Parts.{followed_by, next_word, at_end, exactly}
+use Rattle.tis_words.specs.Numerals.{value_of}
 
 -- a statement without a block
 abbrev pub IsPlain : Statement Name → Type 0
@@ -146,4 +150,4 @@ first_are_plain (line ∷ filled) behind plain = (words_are_plain line.words, fi
 
 pub lines_are_plain : (text : List ℕ) → ArePlain (lines_of text)
 unfolding lines_of lines_up_to
-lines_are_plain text = first_are_plain (take 65535 (non_blank_lines text)) (map line_past (drop 65535 (non_blank_lines text))) (past_are_plain (drop 65535 (non_blank_lines text)))
+lines_are_plain text = first_are_plain (take 65535 (non_blank_lines BehindHash text)) (map line_past (drop 65535 (non_blank_lines BehindHash text))) (past_are_plain (drop 65535 (non_blank_lines BehindHash text)))

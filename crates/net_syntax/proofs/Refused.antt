@@ -1,12 +1,13 @@
 -- What is refused: the line that a refusal names is the first with which no network goes on.
-use Rattle.std.proofs.Common.{◌≡◌, ℕ, zero, suc, ◌+◌, ◌≤◌, ◌⊎◌, inl, inr, Bool, true, false, cond, List, [], ◌∷◌, ◌++◌, length, refl, sym, ap, subst, ◌∙◌, arith, append_assoc}
+use Rattle.std.proofs.Common.{◌≡◌, ℕ, suc, inl, inr, Bool, true, false, cond, List, [], ◌∷◌, ◌++◌, length, refl, sym, ap, subst, ◌∙◌, arith, append_assoc}
 use Rattle.std.specs.Prelude.{Option, Some, None, Result, Ok, Err, nat_lt}
 use Rattle.tis_base.specs.Tiles.{Tiles}
-use Rattle.net_syntax.specs.Tree.{Name, Block, Empty, with_last, Net, NetRefusal, BadLine, TooDeep, StrayEnd, Unclosed}
+use Rattle.net_tree.specs.Tree.{Name, Block, Empty, with_last, Net}
+use Rattle.net_syntax.specs.Refusals.{NetRefusal, BadLine, TooDeep, StrayEnd, Unclosed}
 use Rattle.net_syntax.specs.Forms as forms
 use Rattle.net_syntax.specs.Forms.{LineForm, Line, lines_of}
-use Rattle.net_syntax.specs.Grammar.{line, IsNet, bare_net, with_declarations, GoesOn, GoesOnDeeper, IsFirstWrong, IsCloser, IsRefusal, IsAnswer, next_number}
-use Rattle.net_syntax.specs.Reading.{BlockRole, FirstOf, SecondOf, WhileOf, CountOf, OpenStatement, OpenProcess, Configuration, after_line, after_lines, and_then, still_open, with_open_block, second_role, else_in, after_else, after_end, line_inside, line_outside, refusal_of, innermost_line, answer_of, statement_with, net_at_end, after_all, after_version, tiles_of_line, head_of_line, net_with, net_of}
+use Rattle.net_syntax.specs.Grammar.{line, IsNet, bare_net, with_declarations, GoesOn, GoesOnDeeper, IsCloser, IsRefusal, IsAnswer, next_number}
+use Rattle.net_syntax.specs.Reading.{BlockRole, FirstOf, WhileOf, CountOf, OpenStatement, OpenProcess, Configuration, after_line, after_lines, and_then, still_open, with_open_block, second_role, else_in, after_else, after_end, line_inside, line_outside, refusal_of, innermost_line, answer_of, statement_with, net_at_end, after_all, net_of}
 use Rattle.net_syntax.proofs.Blamed.{IsBlockLine, IsBlamedOn, IsBlamed}
 use Rattle.net_syntax.proofs.Plain.{ArePlain, lines_are_plain}
 use Rattle.net_syntax.proofs.Limits.{stops_here}

@@ -5,7 +5,7 @@ use Rattle.std.specs.Prelude.{List, [], ◌∷◌}
 use Rattle.tis_base.specs.declared.tiles.TileKind.{TileKind}
 use Rattle.net_syntax.specs.declared.rows.Row.{Row}
 use Rattle.net_syntax.specs.Forms.{LineForm, Version, TilesLine, Input, Output, Channel, Process, Simple, OpensIf, OpensWhile, OpensCount, Else, End, Malformed}
-use Rattle.net_syntax.specs.View.{statement_view}
+use Rattle.net_tree.specs.View.{statement_view}
 
 -- what a line says as it is held
 abbrev pub form_view : held.LineForm → LineForm

@@ -1,20 +1,23 @@
 -- The forms of lines: what a line says by its words alone.
-use Rattle.std.specs.Prelude.{ℕ, ◌+◌, ◌-◌, ◌*◌, ℤ, pos, neg_ℤ, List, [], ◌∷◌, ◌++◌, map, length, take, drop, Option, Some, None, option_map, option_and_then, codes, nat_le, if◌then◌else◌, ◌==◌}
-use Rattle.std.specs.Char.{is_ascii_digit}
+use Rattle.std.specs.Prelude.{ℕ, ℤ, List, [], ◌∷◌, ◌++◌, map, length, take, drop, Option, Some, None, option_map, option_and_then, codes, nat_le, if◌then◌else◌, ◌==◌}
 use Rattle.std.specs.Option.{unwrap_or, option_or}
 use Rattle.std.specs.Str.{bytes_eq}
 use Rattle.tis_base.specs.Tiles.{Tiles}
+use Rattle.tis_words.specs.declared.comments.Comments.TheVariants.{BehindHash}
+use Rattle.tis_words.specs.Numerals.{number_of, value_of}
+use Rattle.tis_words.specs.Parts.{◌>>=◌, exactly, next_word, at_end}
 use Rattle.tis_base.specs.declared.tiles.TileKind.{TileKind}
 use Rattle.tis_base.specs.declared.tiles.TileKind.TheVariants.{Compute, Memory, Damaged}
-use Rattle.net_syntax.specs.declared.tree.Var.{Var}
-use Rattle.net_syntax.specs.declared.tree.Var.TheVariants.{X, Y}
-use Rattle.net_syntax.specs.declared.tree.Test.{Test}
-use Rattle.net_syntax.specs.declared.tree.Test.TheVariants.{Zero, NotZero, Negative, Positive, NotPositive, NotNegative}
+use Rattle.net_tree.specs.declared.tree.Var.{Var}
+use Rattle.net_tree.specs.declared.tree.Var.TheVariants.{X, Y}
+use Rattle.net_tree.specs.declared.tree.Test.{Test}
+use Rattle.net_tree.specs.declared.tree.Test.TheVariants.{Zero, NotZero, Negative, Positive, NotPositive, NotNegative}
 use Rattle.net_syntax.specs.declared.keyword.Keyword.{Keyword}
 use Rattle.net_syntax.specs.declared.keyword.Keyword.TheVariants as word
-use Rattle.net_syntax.specs.Names.{is_name}
-use Rattle.net_syntax.specs.Tree.{Name, Statement, Get, GetAdd, GetSub, Put, PutNumber, Move, Set, Add, Sub, Neg, Double, Copy, Swap}
-use Rattle.net_syntax.specs.Words.{Words, NonBlank, non_blank_lines}
+use Rattle.net_tree.specs.Names.{is_name}
+use Rattle.net_tree.specs.Tree.{Name, Statement, Get, GetAdd, GetSub, Put, PutNumber, Move, Set, Add, Sub, Neg, Double, Copy, Swap}
+use Rattle.tis_words.specs.Words.{Words}
+use Rattle.tis_words.specs.Lines.{NonBlank, non_blank_lines}
 
 -- what a line says
 pub data LineForm : Type 0 where
@@ -41,19 +44,6 @@ pub data LineForm : Type 0 where
 
 -- ---- words
 
--- the next part is looked for only where the words before it were right
-unfoldable pub followed_by : {A B : Type 0} → Option A → (A → Option B) → Option B
-followed_by read next = option_and_then next read
-
-infixl 10 ◌>>=◌
--- the same, written between the two
-abbrev pub ◌>>=◌ : {A B : Type 0} → Option A → (A → Option B) → Option B
-read >>= next = followed_by read next
-
--- a word with exactly these bytes
-abbrev pub exactly : List ℕ → List ℕ → Option (List ℕ)
-exactly expected word = if bytes_eq word expected then Some expected else None
-
 -- a word that is a name
 abbrev pub name_of : List ℕ → Option Name
 name_of word = if is_name word then Some word else None
@@ -73,44 +63,7 @@ test_of word =
     else if bytes_eq word (codes ">=") then Some NotNegative
     else None
 
--- what a digit stands for
-abbrev pub digit : ℕ → Option ℕ
-digit byte = if is_ascii_digit byte then Some (byte - 48) else None
-
--- the number that these digits spell, behind those that spell the first number
-abbrev pub spelled_behind : ℕ → List ℕ → Option ℕ
-spelled_behind number [] = Some number
-spelled_behind number (byte ∷ bytes) = option_and_then (λ value. spelled_behind (number * 10 + value) bytes) (digit byte)
-
--- the number that one or more digits spell
-abbrev pub spelled : List ℕ → Option ℕ
-spelled [] = None
-spelled (byte ∷ bytes) = spelled_behind 0 (byte ∷ bytes)
-
--- this number, where it is at most the first one
-abbrev pub at_most : ℕ → ℕ → Option ℕ
-at_most most number = if nat_le number most then Some number else None
-
--- the number that one or more digits spell, leading zeros among them, where it is at most this one
-unfoldable pub number_of : ℕ → List ℕ → Option ℕ
-number_of most word = option_and_then (at_most most) (spelled word)
-
--- a numeral, which a `-` may stand before, that spells a value from -999 to 999
-unfoldable pub value_of : List ℕ → Option ℤ
-value_of [] = None
-value_of (byte ∷ bytes) = if byte == 45 then option_map (λ n. neg_ℤ (pos n)) (number_of 999 bytes) else option_map (λ n. pos n) (number_of 999 (byte ∷ bytes))
-
 -- ---- the parts of a line: what is read, and the words behind it
-
--- a word that means something, and the words behind it
-unfoldable pub next_word : {X : Type 0} → (List ℕ → Option X) → Words → Option (X × Words)
-next_word meaning [] = None
-next_word meaning (word ∷ words) = option_map (λ x. (x, words)) (meaning word)
-
--- what was read, where no word stands behind it
-unfoldable pub at_end : {X : Type 0} → Words → X → Option X
-at_end [] x = Some x
-at_end (word ∷ words) x = None
 
 -- numbers of tiles from 0 to 99 up to the end of the line
 unfoldable pub tiles_to_end : Words → Option (List ℕ)
@@ -347,4 +300,4 @@ lines_up_to most filled = map line_of (take most filled) ++ map line_past (drop 
 
 -- the lines of a text that aren't blank, of which at most 65,535 say something
 unfoldable pub lines_of : List ℕ → List Line
-lines_of text = lines_up_to 65535 (non_blank_lines text)
+lines_of text = lines_up_to 65535 (non_blank_lines BehindHash text)

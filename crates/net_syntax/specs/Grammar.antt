@@ -2,7 +2,8 @@
 use Rattle.std.specs.Prelude.{◌≡◌, ℕ, ◌+◌, ◌≤◌, suc, ◌⊎◌, List, [], ◌∷◌, ◌++◌, length, Result, Ok, Err}
 use Rattle.tis_base.specs.Lines.{text_lines}
 use Rattle.tis_base.specs.Tiles.{Tiles}
-use Rattle.net_syntax.specs.Tree.{Name, Statement, If, While, Count, Block, Empty, Then, PortLine, ChannelLine, ProcessText, Net, NetRefusal, BadLine, TooDeep, StrayEnd, Unclosed}
+use Rattle.net_tree.specs.Tree.{Name, Statement, If, While, Count, Block, Empty, Then, PortLine, ChannelLine, ProcessText, Net}
+use Rattle.net_syntax.specs.Refusals.{NetRefusal, BadLine, TooDeep, StrayEnd, Unclosed}
 use Rattle.net_syntax.specs.Forms as forms
 use Rattle.net_syntax.specs.Forms.{LineForm, Line, lines_of}
 

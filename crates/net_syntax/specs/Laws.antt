@@ -1,6 +1,6 @@
 -- What holds of network texts, apart from any call.
 use Rattle.std.specs.Prelude.{◌≡◌, ℕ, List, Ok}
-use Rattle.net_syntax.specs.Tree.{Net}
+use Rattle.net_tree.specs.Tree.{Net}
 use Rattle.net_syntax.specs.Forms.{lines_of}
 use Rattle.net_syntax.specs.Grammar.{IsNet, IsAnswer}
 use Rattle.net_syntax.specs.Reading.{net_of}

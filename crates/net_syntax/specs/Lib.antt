@@ -1,12 +1,7 @@
-pub mod Names
-pub mod Tree
-pub mod Words
 pub mod Forms
+pub mod Refusals
 pub mod Grammar
 pub mod Reading
-pub mod NetText
-pub mod View
-pub mod Reads
 pub mod FormView
 pub mod ReaderView
 pub mod UnreadView

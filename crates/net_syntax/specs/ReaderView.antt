@@ -7,9 +7,9 @@ use Rattle.net_syntax.specs.declared.reader.BlockRole.TheVariants as roles
 use Rattle.net_syntax.specs.declared.reader.OpenStatement as held_statement
 use Rattle.net_syntax.specs.declared.reader.OpenProcess as held_process
 use Rattle.net_syntax.specs.declared.reader.Configuration as held_configuration
-use Rattle.net_syntax.specs.Tree.{NetRefusal, BadLine, TooDeep, StrayEnd, Unclosed}
+use Rattle.net_syntax.specs.Refusals.{NetRefusal, BadLine, TooDeep, StrayEnd, Unclosed}
 use Rattle.net_syntax.specs.Reading.{BlockRole, FirstOf, SecondOf, WhileOf, CountOf, OpenStatement, OpenProcess, Configuration}
-use Rattle.net_syntax.specs.View.{block_view, net_view}
+use Rattle.net_tree.specs.View.{block_view, net_view}
 
 -- an error says this of a text; that memory ran out says nothing
 abbrev pub IsError : {Y : Type 0} → NetError → Result Y NetRefusal → Type 0

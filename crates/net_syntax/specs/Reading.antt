@@ -1,9 +1,10 @@
 -- Reading a network line by line. The grammar says what it means: a law of this crate has that its networks are read so.
 use Rattle.std.specs.Prelude.{ℕ, List, [], ◌∷◌, length, Option, Some, None, Result, Ok, Err, nat_lt, if◌then◌else◌}
 use Rattle.tis_base.specs.Tiles.{Tiles}
-use Rattle.net_syntax.specs.declared.tree.Var.{Var}
-use Rattle.net_syntax.specs.declared.tree.Test.{Test}
-use Rattle.net_syntax.specs.Tree.{Name, Statement, If, While, Count, Block, Empty, with_last, Net, NetRefusal, BadLine, TooDeep, StrayEnd, Unclosed}
+use Rattle.net_tree.specs.declared.tree.Var.{Var}
+use Rattle.net_tree.specs.declared.tree.Test.{Test}
+use Rattle.net_tree.specs.Tree.{Name, Statement, If, While, Count, Block, Empty, with_last, Net}
+use Rattle.net_syntax.specs.Refusals.{NetRefusal, BadLine, TooDeep, StrayEnd, Unclosed}
 use Rattle.net_syntax.specs.Forms as forms
 use Rattle.net_syntax.specs.Forms.{LineForm, Line, lines_of}
 use Rattle.net_syntax.specs.Grammar.{Declaration, DeclaresInput, DeclaresOutput, DeclaresChannel, DeclaresProcess, bare_net, with_declaration, next_number}

@@ -1,24 +1,21 @@
 //! What a line says by itself.
-ghost use Rattle.std.specs.Prelude.{◌≡◌, option_and_then, MatchOption, []};
-ghost use Rattle.net_syntax.specs.Reads.{Found, IsMore};
+ghost use Rattle.std.specs.Prelude.{◌≡◌, option_and_then};
+ghost use Rattle.tis_words.specs.Reads.{Found};
 ghost use Rattle.net_syntax.specs.FormView.{form_view};
-ghost use Rattle.net_syntax.specs.View.{statement_view};
+ghost use Rattle.net_tree.specs.View.{statement_view};
 ghost use Rattle.net_syntax.specs.Forms.{put_of as put_said, sent_on as sent_by, statement_of as statement_said, version_of as version_said, said as form_said, form_of as form_written, keyword_of as keyword_said};
-ghost use Rattle.net_syntax.specs.Words.{line_words};
+ghost use Rattle.tis_words.specs.Words.{words_in};
 
 use crate::keyword::{Keyword, keyword_of};
 use crate::links::{channel_of, port_of, process_of};
-use crate::name::Name;
-use crate::numeral::value_of;
 use crate::operands::{
-    end, name_and_var, next_name, next_text, one_var, test_against_zero, two_names, two_vars,
-    var_and_number, var_of,
+    name_and_var, next_name, one_var, test_against_zero, two_names, two_vars, var_and_number,
+    var_of,
 };
-use crate::path::Path;
 use crate::rows::tiles_of;
-use crate::tree::{Statement, Test, Var};
-use crate::words::Words;
+use net_tree::{Name, Path, Statement, Test, Var};
 use tis_base::Tiles;
+use tis_words::{Words, value_of};
 
 /// What a line says.
 #[derive(Drop)]
@@ -54,18 +51,18 @@ fn sent_on(name: Name, word: &[u8]) -> Option<Statement>
 }
 
 // A name, and what is sent on it.
-#[tactic(auto, unfolding(crate::specs::Forms::put_of, crate::specs::Forms::followed_by, crate::specs::Forms::next_word, crate::specs::Forms::at_end))]
+#[tactic(auto, unfolding(crate::specs::Forms::put_of, tis_words::specs::Parts::followed_by, tis_words::specs::Parts::next_word, tis_words::specs::Parts::at_end))]
 fn put_of(words: &mut Words<'_>) -> Option<Statement>
     ensures { Found statement_view result (put_said words.old) }
 {
     let name = next_name(words)?;
     let statement = sent_on(name, words.next()?)?;
-    end(words)?;
+    words.end()?;
     Some(statement)
 }
 
 // A statement without a block, by the words behind its first word.
-#[tactic(auto, unfolding(crate::specs::Forms::statement_of, crate::specs::Forms::at_end))]
+#[tactic(auto, unfolding(crate::specs::Forms::statement_of, tis_words::specs::Parts::at_end))]
 fn statement_of(keyword: Keyword, words: &mut Words<'_>) -> Option<Statement>
     ensures { Found statement_view result (statement_said keyword words.old) }
 {
@@ -81,23 +78,23 @@ fn statement_of(keyword: Keyword, words: &mut Words<'_>) -> Option<Statement>
         Keyword::Neg => one_var(words).map(|var| Statement::Neg(var)),
         Keyword::Double => one_var(words).map(|var| Statement::Double(var)),
         Keyword::Copy => two_vars(words).map(|(to, from)| Statement::Copy(to, from)),
-        Keyword::Swap => end(words).map(|_| Statement::Swap),
+        Keyword::Swap => words.end().map(|_| Statement::Swap),
         _ => None,
     }
 }
 
 // What the first line has behind its first word.
-#[tactic(auto, unfolding(crate::specs::Forms::version_of, crate::specs::Forms::followed_by, crate::specs::Forms::at_end))]
+#[tactic(auto, unfolding(crate::specs::Forms::version_of, tis_words::specs::Parts::followed_by, tis_words::specs::Parts::at_end))]
 fn version_of(words: &mut Words<'_>) -> Option<LineForm>
     ensures { Found form_view result (version_said words.old) }
 {
-    next_text(words, b"1")?;
-    end(words)?;
+    words.next_exactly(b"1")?;
+    words.end()?;
     Some(LineForm::Version)
 }
 
 // What a line says, by the words behind its first word.
-#[tactic(auto, unfolding(crate::specs::Forms::said, crate::specs::Forms::at_end))]
+#[tactic(auto, unfolding(crate::specs::Forms::said, tis_words::specs::Parts::at_end))]
 fn said(keyword: Keyword, words: &mut Words<'_>) -> Option<LineForm>
     ensures { Found form_view result (form_said keyword words.old) }
 {
@@ -112,8 +109,8 @@ fn said(keyword: Keyword, words: &mut Words<'_>) -> Option<LineForm>
         )),
         Keyword::Channel => channel_of(words).map(|(name, via)| LineForm::Channel(name, via)),
         Keyword::Process => process_of(words).map(|(name, at)| LineForm::Process(name, at)),
-        Keyword::Else => end(words).map(|_| LineForm::Else),
-        Keyword::End => end(words).map(|_| LineForm::End),
+        Keyword::Else => words.end().map(|_| LineForm::Else),
+        Keyword::End => words.end().map(|_| LineForm::End),
         Keyword::If => test_against_zero(words).map(|(var, test)| LineForm::OpensIf(var, test)),
         Keyword::While => test_against_zero(words).map(|(var, test)| LineForm::OpensWhile(
             var, test,
@@ -130,15 +127,17 @@ fn form_by(word: &[u8], words: &mut Words<'_>) -> Option<LineForm>
     said(keyword_of(word)?, words)
 }
 
-/// What a line says, or None where it is blank.
+/// What a line says that has words. What has none says nothing that is right.
 #[tactic(auto, unfolding(crate::specs::Forms::form_of))]
-pub(crate) fn form_of(line: &[u8]) -> Option<LineForm>
-    ensures { MatchOption result (line_words line.now ≡ []) (λ form. IsMore (line_words line.now) × (form_view form ≡ form_written (line_words line.now))) }
+pub(crate) fn form_of(line: &[u8]) -> LineForm
+    ensures { form_view result ≡ form_written (words_in line.now) }
 {
     let mut words = Words::new(line);
-    let word = words.next()?;
+    let Some(word) = words.next() else {
+        return LineForm::Malformed;
+    };
     match form_by(word, &mut words) {
-        Some(form) => Some(form),
-        None => Some(LineForm::Malformed),
+        Some(form) => form,
+        None => LineForm::Malformed,
     }
 }

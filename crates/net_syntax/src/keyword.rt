@@ -2,7 +2,7 @@
 ghost use Rattle.std.specs.Prelude.{◌≡◌};
 ghost use Rattle.net_syntax.specs.Forms.{frame_keyword as frame_word, statement_keyword as statement_word, variable_keyword as variable_word, keyword_of as word_of};
 
-use crate::words::is;
+use tis_words::is;
 
 /// The first word of a line.
 #[derive(Clone, Copy, Debug, PartialEq, Eq)]

@@ -15,11 +15,11 @@
 //! let line = body.line(0);   // 4
 //! ```
 //!
-//! Contracts see the tree as plain data: `net_view` of `specs/View.antt`, in which a name is its
-//! bytes, a block is its statements one after the other, and a line is a number.
+//! The tree is that of `net_tree`, whose types and `write_net` are given out again. Contracts see it as plain
+//! data (`net_view`).
 //!
 //! A text is read in one pass. Time and memory grow with its length and not faster, and at most
-//! sixteen open statements are kept. `write_net` gives the canonical text: `net_text` of the network.
+//! sixteen open statements are kept.
 //!
 //! It doesn't say whether a network can run: which names there are, who reads and who writes them.
 #![tactic(auto)]
@@ -28,27 +28,19 @@ mod error;
 mod form;
 mod keyword;
 mod laws;
-mod lines;
 mod links;
-mod name;
-mod numeral;
 mod operands;
-mod path;
 mod read;
 mod reader;
 mod rows;
-mod tree;
 mod unread;
-mod words;
-mod write;
 
 pub use error::NetError;
 pub use laws::{networks_are_read, read_networks_are_derived, texts_are_answered};
-pub use name::Name;
-pub use path::Path;
+pub use net_tree::{
+    Block, ChannelLine, Name, Net, Path, PortLine, ProcessText, Statement, Test, Var, write_net,
+};
 pub use read::read_net;
-pub use tree::{Block, ChannelLine, Net, PortLine, ProcessText, Statement, Test, Var};
-pub use write::write_net;
 
 #[cfg(test)]
 mod tests;

@@ -1,13 +1,13 @@
 //! The words behind the first word of a line.
-ghost use Rattle.std.specs.Prelude.{◌≡◌, MatchOption, []};
-ghost use Rattle.net_syntax.specs.Reads.{Reads, Passes, Found, IsMore};
-ghost use Rattle.net_syntax.specs.Forms.{exactly, var_of as var_word, test_of as test_word, value_of as spelled_value, name_of, next_word, name_and_var as name_then_var, two_names as both_names, var_and_number as var_then_number, one_var as var_alone, two_vars as both_vars, test_against_zero as tested};
+ghost use Rattle.std.specs.Prelude.{◌≡◌};
+ghost use Rattle.tis_words.specs.Reads.{Reads, Found};
+ghost use Rattle.tis_words.specs.Parts.{exactly, next_word};
+ghost use Rattle.net_syntax.specs.Forms.{var_of as var_word, test_of as test_word, name_of, name_and_var as name_then_var, two_names as both_names, var_and_number as var_then_number, one_var as var_alone, two_vars as both_vars, test_against_zero as tested};
+ghost use Rattle.tis_words.specs.Numerals.{value_of as spelled_value};
 
-use crate::name::Name;
-use crate::numeral::value_of;
-use crate::tree::{Test, Var};
-use crate::words::{Words, is};
+use net_tree::{Name, Test, Var};
 use tis_base::Value;
+use tis_words::{Words, is};
 
 // The variable that a word names.
 pub(crate) fn var_of(word: &[u8]) -> Option<Var>
@@ -44,7 +44,7 @@ fn test_of(word: &[u8]) -> Option<Test>
 }
 
 // The next word is a name.
-#[tactic(auto, unfolding(crate::specs::Forms::next_word))]
+#[tactic(auto, unfolding(tis_words::specs::Parts::next_word))]
 pub(crate) fn next_name(words: &mut Words<'_>) -> Option<Name>
     ensures { Reads (λ name. name) result words.new (next_word name_of words.old) }
 {
@@ -52,7 +52,7 @@ pub(crate) fn next_name(words: &mut Words<'_>) -> Option<Name>
 }
 
 // The next word is a variable.
-#[tactic(auto, unfolding(crate::specs::Forms::next_word))]
+#[tactic(auto, unfolding(tis_words::specs::Parts::next_word))]
 fn next_var(words: &mut Words<'_>) -> Option<Var>
     ensures { Reads (λ var. var) result words.new (next_word var_word words.old) }
 {
@@ -60,102 +60,75 @@ fn next_var(words: &mut Words<'_>) -> Option<Var>
 }
 
 // The next word is a comparison.
-#[tactic(auto, unfolding(crate::specs::Forms::next_word))]
+#[tactic(auto, unfolding(tis_words::specs::Parts::next_word))]
 fn next_test(words: &mut Words<'_>) -> Option<Test>
     ensures { Reads (λ test. test) result words.new (next_word test_word words.old) }
 {
     test_of(words.next()?)
 }
 
-// The next word is a value.
-#[tactic(auto, unfolding(crate::specs::Forms::next_word))]
-fn next_value(words: &mut Words<'_>) -> Option<Value>
-    ensures { Reads (λ value. value) result words.new (next_word spelled_value words.old) }
-{
-    value_of(words.next()?)
-}
-
-// The next word is exactly this text.
-#[tactic(auto, unfolding(crate::specs::Forms::next_word))]
-pub(crate) fn next_text(words: &mut Words<'_>, text: &[u8]) -> Option<()>
-    ensures { Passes result words.new text.now (next_word (exactly text.now) words.old) }
-{
-    let word = words.next()?;
-    if is(word, text) { Some(()) } else { None }
-}
-
-// Nothing stands behind.
-pub(crate) fn end(words: &mut Words<'_>) -> Option<()>
-    ensures { MatchOption result (IsMore words.old) (λ _. words.old ≡ []) }
-{
-    match words.next() {
-        Some(_) => None,
-        None => Some(()),
-    }
-}
-
 // A name and a variable.
-#[tactic(auto, unfolding(crate::specs::Forms::name_and_var, crate::specs::Forms::followed_by, crate::specs::Forms::at_end))]
+#[tactic(auto, unfolding(crate::specs::Forms::name_and_var, tis_words::specs::Parts::followed_by, tis_words::specs::Parts::at_end))]
 pub(crate) fn name_and_var(words: &mut Words<'_>) -> Option<(Name, Var)>
     ensures { Found (λ p. p) result (name_then_var words.old) }
 {
     let name = next_name(words)?;
     let var = next_var(words)?;
-    end(words)?;
+    words.end()?;
     Some((name, var))
 }
 
 // Two names.
-#[tactic(auto, unfolding(crate::specs::Forms::two_names, crate::specs::Forms::followed_by, crate::specs::Forms::at_end))]
+#[tactic(auto, unfolding(crate::specs::Forms::two_names, tis_words::specs::Parts::followed_by, tis_words::specs::Parts::at_end))]
 pub(crate) fn two_names(words: &mut Words<'_>) -> Option<(Name, Name)>
     ensures { Found (λ p. p) result (both_names words.old) }
 {
     let first = next_name(words)?;
     let second = next_name(words)?;
-    end(words)?;
+    words.end()?;
     Some((first, second))
 }
 
 // A variable and a number.
-#[tactic(auto, unfolding(crate::specs::Forms::var_and_number, crate::specs::Forms::followed_by, crate::specs::Forms::at_end))]
+#[tactic(auto, unfolding(crate::specs::Forms::var_and_number, tis_words::specs::Parts::followed_by, tis_words::specs::Parts::at_end))]
 pub(crate) fn var_and_number(words: &mut Words<'_>) -> Option<(Var, Value)>
     ensures { Found (λ p. p) result (var_then_number words.old) }
 {
     let var = next_var(words)?;
-    let number = next_value(words)?;
-    end(words)?;
+    let number = words.next_value()?;
+    words.end()?;
     Some((var, number))
 }
 
 // A variable alone.
-#[tactic(auto, unfolding(crate::specs::Forms::one_var, crate::specs::Forms::followed_by, crate::specs::Forms::at_end))]
+#[tactic(auto, unfolding(crate::specs::Forms::one_var, tis_words::specs::Parts::followed_by, tis_words::specs::Parts::at_end))]
 pub(crate) fn one_var(words: &mut Words<'_>) -> Option<Var>
     ensures { Found (λ p. p) result (var_alone words.old) }
 {
     let var = next_var(words)?;
-    end(words)?;
+    words.end()?;
     Some(var)
 }
 
 // Two variables.
-#[tactic(auto, unfolding(crate::specs::Forms::two_vars, crate::specs::Forms::followed_by, crate::specs::Forms::at_end))]
+#[tactic(auto, unfolding(crate::specs::Forms::two_vars, tis_words::specs::Parts::followed_by, tis_words::specs::Parts::at_end))]
 pub(crate) fn two_vars(words: &mut Words<'_>) -> Option<(Var, Var)>
     ensures { Found (λ p. p) result (both_vars words.old) }
 {
     let first = next_var(words)?;
     let second = next_var(words)?;
-    end(words)?;
+    words.end()?;
     Some((first, second))
 }
 
 // A variable, how it is compared, and `0`.
-#[tactic(auto, unfolding(crate::specs::Forms::test_against_zero, crate::specs::Forms::followed_by, crate::specs::Forms::at_end))]
+#[tactic(auto, unfolding(crate::specs::Forms::test_against_zero, tis_words::specs::Parts::followed_by, tis_words::specs::Parts::at_end))]
 pub(crate) fn test_against_zero(words: &mut Words<'_>) -> Option<(Var, Test)>
     ensures { Found (λ p. p) result (tested words.old) }
 {
     let var = next_var(words)?;
     let test = next_test(words)?;
-    next_text(words, b"0")?;
-    end(words)?;
+    words.next_exactly(b"0")?;
+    words.end()?;
     Some((var, test))
 }

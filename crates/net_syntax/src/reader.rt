@@ -2,14 +2,13 @@
 ghost use Rattle.std.specs.Prelude.{◌≡◌, ◌+◌, ◌<◌, ◌^◌, option_map, MatchOption, [], Some, None, Ok, Err};
 ghost use Rattle.net_syntax.specs.ReaderView.{Answers, IsError, configuration_view, open_process_view, open_statement_view, role_view};
 ghost use Rattle.net_syntax.specs.FormView.{form_view};
-ghost use Rattle.net_syntax.specs.View.{net_view, block_view, statement_view};
+ghost use Rattle.net_tree.specs.View.{net_view, block_view, statement_view};
 ghost use Rattle.net_syntax.specs.Reading.{Configuration as Seen, after_line as line_after, line_inside, line_outside, statement_with as statement_of, with_statement as more_statements, with_open_block as opens, refusal_of, after_else as else_after, after_end as end_after, net_at_end as net_of_end, innermost_line as line_of_innermost};
 ghost use Rattle.net_syntax.specs.Grammar.{bare_net};
 
 use crate::error::NetError;
 use crate::form::LineForm;
-use crate::name::Name;
-use crate::tree::{Block, ChannelLine, Net, PortLine, ProcessText, Statement, Test, Var};
+use net_tree::{Block, ChannelLine, Name, Net, PortLine, ProcessText, Statement, Test, Var};
 use std::alloc::Global;
 use tis_base::Tiles;
 

@@ -1,12 +1,12 @@
 //! The tiles of a network.
 ghost use Rattle.std.specs.Prelude.{◌≡◌, ◌++◌, Some};
-ghost use Rattle.net_syntax.specs.Reads.{Reads, Found};
+ghost use Rattle.tis_words.specs.Reads.{Reads, Found};
 ghost use Rattle.net_syntax.specs.FormView.{row_view};
-ghost use Rattle.net_syntax.specs.Forms.{next_word, row_of as row_said, tiles_of as tiles_said, kind_of as kind_said};
+ghost use Rattle.tis_words.specs.Parts.{next_word};
+ghost use Rattle.net_syntax.specs.Forms.{row_of as row_said, tiles_of as tiles_said, kind_of as kind_said};
 
-use crate::operands::end;
-use crate::words::Words;
 use tis_base::{Shape, TileKind, Tiles};
+use tis_words::Words;
 
 // What a letter of the tiles stands for.
 fn kind_of(letter: u8) -> Option<TileKind>
@@ -30,7 +30,7 @@ pub(crate) struct Row {
 }
 
 // What the letters of a word of four stand for.
-#[tactic(auto, unfolding(crate::specs::Forms::row_of, crate::specs::Forms::followed_by))]
+#[tactic(auto, unfolding(crate::specs::Forms::row_of, tis_words::specs::Parts::followed_by))]
 fn row_of(word: &[u8]) -> Option<Row>
     ensures { Found row_view result (row_said word.now) }
 {
@@ -52,7 +52,7 @@ fn row_of(word: &[u8]) -> Option<Row>
 }
 
 // The next word is a row of tiles.
-#[tactic(auto, unfolding(crate::specs::Forms::next_word))]
+#[tactic(auto, unfolding(tis_words::specs::Parts::next_word))]
 fn next_row(words: &mut Words<'_>) -> Option<Row>
     ensures { Reads row_view result words.new (next_word row_said words.old) }
 {
@@ -87,13 +87,13 @@ fn tiles_with(first: Row, second: Row, third: Row) -> Option<Tiles>
 }
 
 // Three rows of four tiles.
-#[tactic(auto, unfolding(crate::specs::Forms::tiles_of, crate::specs::Forms::followed_by, crate::specs::Forms::at_end))]
+#[tactic(auto, unfolding(crate::specs::Forms::tiles_of, tis_words::specs::Parts::followed_by, tis_words::specs::Parts::at_end))]
 pub(crate) fn tiles_of(words: &mut Words<'_>) -> Option<Tiles>
     ensures { Found (λ t. t) result (tiles_said words.old) }
 {
     let first = next_row(words)?;
     let second = next_row(words)?;
     let third = next_row(words)?;
-    end(words)?;
+    words.end()?;
     tiles_with(first, second, third)
 }

@@ -38,6 +38,15 @@ impl Stack {
         }
     }
 
+    /// A stack with the same values. It takes no memory.
+    pub fn copy(&self) -> Stack
+        ensures { result ≡ self.now }
+    {
+        let mut values = ArrayVec::new();
+        values.try_extend_from_slice(&self.values).unwrap();
+        Stack { values }
+    }
+
     /// Whether fifteen values are there.
     pub fn is_full(&self) -> bool
         ensures full { IsTrue result ↔ (length self.now ≡ ROOM) }

@@ -82,7 +82,7 @@ start_fitting grid is_grid =
 -- ---- what an event keeps
 
 -- what holds of the value that is put in and of those that stood there holds of each element
-get_or-set_holds : {X : Type 0} (P : X → Type 0) → (xs : List X) (at index : ℕ) (value other : X) → P value → P (get_or xs index other) → P (get_or (set xs at value) index other)
+pub get_or-set_holds : {X : Type 0} (P : X → Type 0) → (xs : List X) (at index : ℕ) (value other : X) → P value → P (get_or xs index other) → P (get_or (set xs at value) index other)
 get_or-set_holds {X} P xs at index value other new old =
     elim (cases_eq index at) [
       | inl here ↦ elim (cases_lt at (length xs)) [

@@ -14,3 +14,7 @@ pub mod Grids
 mod Examples
 pub mod Listed
 pub mod DrawnOrders
+pub mod Outputs
+pub mod Inputs
+pub mod Starting
+pub mod OrderRuns

@@ -36,26 +36,26 @@ stands_at x (first ∷ rest) (suc place) within is = inr (stands_at x rest place
 stands : {X : Type 0} (x : X) (xs : List X) → Contains xs x → IsIn x xs
 stands x xs is = stands_at x xs is.0 is.1 is.2
 
-in_left : {X : Type 0} (x : X) (xs ys : List X) → IsIn x xs → IsIn x (xs ++ ys)
+pub in_left : {X : Type 0} (x : X) (xs ys : List X) → IsIn x xs → IsIn x (xs ++ ys)
 in_left x [] ys is = absurd is
 in_left x (first ∷ xs) ys (inl same) = inl same
 in_left x (first ∷ xs) ys (inr later) = inr (in_left x xs ys later)
 
-in_right : {X : Type 0} (x : X) (xs ys : List X) → IsIn x ys → IsIn x (xs ++ ys)
+pub in_right : {X : Type 0} (x : X) (xs ys : List X) → IsIn x ys → IsIn x (xs ++ ys)
 in_right x [] ys is = is
 in_right x (first ∷ xs) ys is = inr (in_right x xs ys is)
 
-in_map : {X Y : Type 0} (f : X → Y) (x : X) (xs : List X) → IsIn x xs → IsIn (f x) (map f xs)
+pub in_map : {X Y : Type 0} (f : X → Y) (x : X) (xs : List X) → IsIn x xs → IsIn (f x) (map f xs)
 in_map f x [] is = absurd is
 in_map f x (first ∷ xs) (inl same) = inl (ap f same)
 in_map f x (first ∷ xs) (inr later) = inr (in_map f x xs later)
 
-in_flat_map : {X Y : Type 0} (f : X → List Y) (x : X) (y : Y) (xs : List X) → IsIn x xs → IsIn y (f x) → IsIn y (flat_map f xs)
+pub in_flat_map : {X Y : Type 0} (f : X → List Y) (x : X) (y : Y) (xs : List X) → IsIn x xs → IsIn y (f x) → IsIn y (flat_map f xs)
 in_flat_map f x y [] is among = absurd is
 in_flat_map f x y (first ∷ xs) (inl same) among = in_left y (f first) (flat_map f xs) (subst (λ (z : _). IsIn y (f z)) (sym same) among)
 in_flat_map f x y (first ∷ xs) (inr later) among = in_right y (f first) (flat_map f xs) (in_flat_map f x y xs later among)
 
-in_range : (start count number : ℕ) → start ≤ number → number < start + count → IsIn number (range_with_len start count)
+pub in_range : (start count number : ℕ) → start ≤ number → number < start + count → IsIn number (range_with_len start count)
 in_range start zero number from below = absurd (omega arith)
 in_range start (suc count) number from below =
     elim (eq-or-lt_of_le from) [
@@ -63,7 +63,7 @@ in_range start (suc count) number from below =
       | inr later ↦ inr (in_range (start + 1) count number (omega arith) (omega arith))
     ]
 
-in_filter : {X : Type 0} (test : X → Bool) (x : X) (xs : List X) → IsIn x xs → test x ≡ true → IsIn x (filter test xs)
+pub in_filter : {X : Type 0} (test : X → Bool) (x : X) (xs : List X) → IsIn x xs → test x ≡ true → IsIn x (filter test xs)
 in_filter test x [] is passes = absurd is
 in_filter test x (first ∷ xs) (inl same) passes =
     let first_passes : test first ≡ true = ap test same ∙ passes in

@@ -18,7 +18,7 @@ Runs grid state [] = Unit {0}
 Runs grid state (event ∷ events) = Enables grid state event × Runs grid (after_event grid state event) events
 
 -- an event leads somewhere where it is enabled
-step_cases : (enabled : Bool) (next after : State) (rest : State → Option State) → option_and_then rest (cond enabled (Some next) None) ≡ Some after → (enabled ≡ true) × (rest next ≡ Some after)
+pub step_cases : (enabled : Bool) (next after : State) (rest : State → Option State) → option_and_then rest (cond enabled (Some next) None) ≡ Some after → (enabled ≡ true) × (rest next ≡ Some after)
 step_cases true next after rest is = (refl, is)
 step_cases false next after rest is = absurd cc
 

@@ -23,6 +23,10 @@ all_events grid =
     ++ map (λ position. In position) (range_with_len 0 grid.puzzle.tiles.shape.columns)
     ++ map (λ position. Out position) (range_with_len 0 grid.puzzle.tiles.shape.columns)
 
--- those of them that are enabled
+-- those of some events that are enabled
+unfoldable pub those_enabled : Grid → State → List Event → List Event
+those_enabled grid state events = filter (is_enabled grid state) events
+
+-- those of all events that are enabled
 abbrev pub enabled_events : Grid → State → List Event
 enabled_events grid state = filter (is_enabled grid state) (all_events grid)

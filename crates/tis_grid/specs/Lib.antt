@@ -6,3 +6,7 @@ pub mod TileSteps
 pub mod Choices
 pub mod Drawn
 pub mod Laws
+pub mod HeldState
+pub mod Points
+pub mod Running
+pub mod HeldGrid

@@ -28,13 +28,23 @@
 //! nothing of how long it took.
 #![tactic(auto)]
 
+mod applying;
+mod enabling;
 mod event;
+mod grid;
 mod laws;
+mod point;
 mod puzzle;
+mod running;
+mod state;
 
 pub use event::Event;
+pub use grid::Grid;
 pub use laws::{
     drawn_orders_are_legal, enabled_events_are_listed, events_are_counted, links_pass_all,
     orders_are_runs, states_fit,
 };
+pub use point::Point;
 pub use puzzle::{InputAt, OutKind, OutputAt, Puzzle};
+pub use running::{Ended, OrderError};
+pub use state::State;

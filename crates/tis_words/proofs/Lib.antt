@@ -1,4 +1,5 @@
 pub mod Cutting
+pub mod Written
 mod Digits
 pub mod Counting
 mod Examples

@@ -1,7 +1,7 @@
 use Rattle.std.proofs.Common.{◌≡◌, ℕ, List, ◌+◌, ◌-◌, ◌<◌, ◌≤◌, length, take, ap, ◌∙◌, arith, length-drop}
 use Rattle.std.proofs.lemmas.Result.{err_from_is_err_and}
 use Rattle.std.proofs.lemmas.Grind.{common_steps}
-use Rattle.lua_syntax.specs.Tokens.{piece}
+use Rattle.lua_tokens.specs.Tokens.{piece}
 use Rattle.lua_syntax.proofs.Places.{reaches_on, reaches_fails}
 use Rattle.lua_syntax.proofs.parsing.feed_all.Goals as goal
 

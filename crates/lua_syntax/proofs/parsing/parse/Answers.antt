@@ -1,8 +1,8 @@
 use Rattle.std.proofs.Common.{List, ◌∷◌, ap, ◌∙◌}
 use Rattle.std.proofs.lemmas.Result.{err_from_is_err_and}
-use Rattle.lua_syntax.specs.declared.symbol.Symbol.{Symbol}
-use Rattle.lua_syntax.specs.declared.symbol.Symbol.TheVariants as s
-use Rattle.lua_syntax.specs.Plain.{plain_answer}
+use Rattle.lua_grammar.specs.declared.symbol.Symbol.{Symbol}
+use Rattle.lua_grammar.specs.declared.symbol.Symbol.TheVariants as s
+use Rattle.lua_syntax.specs.Refusal.{plain_answer}
 use Rattle.lua_syntax.proofs.Wholes.{whole, whole_fails}
 use Rattle.lua_syntax.proofs.parsing.parse.Goals as goal
 

@@ -1,8 +1,0 @@
-use Rattle.std.proofs.Common.{rules, arith}
-use Rattle.std.proofs.lemmas.Grind.{common_steps}
-use Rattle.lua_syntax.specs.Tokens.{word_kind}
-use Rattle.lua_syntax.proofs.words.word_kind.Goals as goal
-
-pub returns : goal.returns
-unfolding word_kind
-returns c = first_of (search rules, grind (arith, common_steps))

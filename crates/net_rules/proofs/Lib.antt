@@ -1,0 +1,8 @@
+pub mod Costs
+pub mod Waiting
+pub mod Running
+pub mod Rounds
+pub mod Counted
+pub mod Accepted
+pub mod Numbering
+mod Examples

@@ -1,0 +1,6 @@
+//! Rules.
+#![tactic(auto)]
+
+mod laws;
+
+pub use laws::processes_wait;

@@ -1,6 +1,0 @@
-use Rattle.std.proofs.Common.{◌≡◌, ◌*◌, ◌∷◌, ◌++◌, map, take, drop}
-use Rattle.net_syntax.specs.NetText.{kind_letter}
-use Rattle.net_syntax.proofs.write.push_row.Given as goal
-
-abbrev pub invariant-letters : goal.invariant-letters
-invariant-letters l = l.out.items ≡ l.fn.out.items ++ 32 ∷ map kind_letter (take l.column (drop (l.row * l.tiles.shape.columns) l.tiles.kinds))

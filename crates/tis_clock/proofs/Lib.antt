@@ -1,0 +1,4 @@
+pub mod Legal
+pub mod Resting
+pub mod Once
+mod Examples

@@ -1,0 +1,69 @@
+-- Worked examples of verdicts.
+use Rattle.std.proofs.Common.{◌≡◌, ℕ, ℤ, pos, false, List, [], ◌∷◌, replicate, refl}
+use Rattle.tis_base.specs.declared.tiles.Dir.TheVariants.{Up, Down, Left, Right}
+use Rattle.tis_base.specs.declared.tiles.TileKind.TheVariants.{Compute, Memory}
+use Rattle.tis_asm.specs.declared.instr.Source.{Source}
+use Rattle.tis_asm.specs.declared.instr.Source.TheVariants as from
+use Rattle.tis_asm.specs.declared.instr.Dest.{Dest}
+use Rattle.tis_asm.specs.declared.instr.Dest.TheVariants as to
+use Rattle.tis_asm.specs.declared.instr.Instr.TheVariants.{Mov}
+use Rattle.tis_asm.specs.declared.program.MarkedInstr.{MarkedInstr}
+use Rattle.tis_grid.specs.declared.puzzle.OutKind.TheVariants.{Stream}
+use Rattle.tis_grid.specs.Puzzle.{Input, Output}
+use Rattle.tis_grid.specs.State.{Grid}
+use Rattle.tis_grade.specs.declared.verdict.Verdict.TheVariants.{Passed, Wrong, Extra, Stuck, Late}
+use Rattle.tis_grade.specs.Verdict.{verdict_of}
+
+-- a program that passes values on
+abbrev moving : Source → Dest → List MarkedInstr
+moving source dest = record { instr = Mov source dest; mark = false } ∷ []
+
+abbrev passing : List MarkedInstr
+passing = moving (from.Port Up) (to.Port Down)
+
+-- the values 5 and 7 come in above column 1, whose three tiles pass them on
+abbrev column : List Output → Grid
+column outputs =
+    record {
+      puzzle = record {
+        tiles = record { shape = record { columns = 4; rows = 3 }; kinds = replicate 12 Compute };
+        inputs = record { position = 1; values = pos 5 ∷ pos 7 ∷ [] } ∷ [];
+        outputs = outputs;
+      };
+      programs = [] ∷ passing ∷ [] ∷ [] ∷ [] ∷ passing ∷ [] ∷ [] ∷ [] ∷ passing ∷ [] ∷ [] ∷ [];
+    }
+
+-- these values are wanted at a position
+abbrev wanted : ℕ → List ℤ → Output
+wanted position values = record { position = position; kind = Stream; expected = values }
+
+other_value : verdict_of (column (wanted 1 (pos 5 ∷ pos 8 ∷ []) ∷ [])) 100 ≡ Wrong 1 1 (pos 8) (pos 7)
+other_value = refl
+
+one_more : verdict_of (column (wanted 1 (pos 5 ∷ []) ∷ wanted 2 (pos 9 ∷ []) ∷ [])) 100 ≡ Extra 1
+one_more = refl
+
+-- when the first value is out, all is as wanted, although another would come
+first_alone : verdict_of (column (wanted 1 (pos 5 ∷ []) ∷ [])) 100 ≡ Passed 4
+first_alone = refl
+
+one_cycle_short : verdict_of (column (wanted 1 (pos 5 ∷ pos 7 ∷ []) ∷ [])) 5 ≡ Late 5
+one_cycle_short = refl
+
+just_enough : verdict_of (column (wanted 1 (pos 5 ∷ pos 7 ∷ []) ∷ [])) 6 ≡ Passed 6
+just_enough = refl
+
+-- tile 0 gives sixteen values to the stack at its right, which holds fifteen
+abbrev filling : Grid
+filling =
+    record {
+      puzzle = record {
+        tiles = record { shape = record { columns = 4; rows = 3 }; kinds = Compute ∷ Memory ∷ replicate 10 Compute };
+        inputs = record { position = 0; values = replicate 16 (pos 1) } ∷ [];
+        outputs = wanted 3 (pos 1 ∷ []) ∷ [];
+      };
+      programs = moving (from.Port Up) (to.Port Right) ∷ replicate 11 [];
+    }
+
+sixteenth_waits : verdict_of filling 100 ≡ Stuck 31
+sixteenth_waits = refl

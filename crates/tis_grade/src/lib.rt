@@ -1,0 +1,6 @@
+//! Grades.
+#![tactic(auto)]
+
+mod verdict;
+
+pub use verdict::Verdict;

@@ -1,0 +1,216 @@
+//! Whether each event can happen next.
+ghost use Rattle.std.specs.Prelude.{◌≡◌, ◌≢◌, ◌<◌, ◌≤◌, IsTrue, IfSome, length, option_map};
+ghost use Rattle.tis_asm.specs.Programs.{IsSound};
+ghost use Rattle.tis_asm.specs.Node as table;
+ghost use Rattle.tis_node.specs.NodeView.{node_view};
+ghost use Rattle.tis_grid.specs.Puzzle.{has_output};
+ghost use Rattle.tis_grid.specs.State as at;
+ghost use Rattle.tis_grid.specs.declared.event.Event.TheVariants as events;
+ghost use Rattle.tis_grid.specs.Events as event;
+ghost use Rattle.tis_grid.specs.Orders.{Fits};
+ghost use Rattle.tis_base.specs.declared.tiles.Dir.TheVariants as dirs;
+
+use crate::grid::{Grid, opposite};
+use crate::state::State;
+use tis_asm::Program;
+use tis_base::{Dir, Tile, TileKind};
+use tis_node::Node;
+
+impl Grid {
+    // Whether a tile is there.
+    fn is_there(&self, tile: Tile) -> bool
+        ensures there { IsTrue result → tile.number < length self.now.puzzle.tiles.kinds }
+        ensures not_there { ¬ IsTrue result → length self.now.puzzle.tiles.kinds ≤ tile.number }
+    {
+        let shape = self.puzzle.tiles.shape();
+        tile.number < shape.columns * shape.rows
+    }
+
+    // Whether a compute tile is there.
+    fn is_compute(&self, tile: Tile) -> bool
+        ensures is { result ≡ event.is_compute_at self.now tile.number }
+        ensures there { IsTrue result → tile.number < length self.now.puzzle.tiles.kinds }
+    {
+        if self.is_there(tile) {
+            matches!(self.puzzle.tiles.kind(tile), TileKind::Compute)
+        } else {
+            false
+        }
+    }
+
+    // Whether a memory tile is there.
+    fn is_memory(&self, tile: Tile) -> bool
+        ensures is { result ≡ event.is_memory_at self.now tile.number }
+        ensures there { IsTrue result → tile.number < length self.now.puzzle.tiles.kinds }
+    {
+        if self.is_there(tile) {
+            matches!(self.puzzle.tiles.kind(tile), TileKind::Memory)
+        } else {
+            false
+        }
+    }
+
+    // The program of a tile.
+    pub(crate) fn program(&self, tile: Tile) -> &Program
+        requires { tile.number < length self.now.puzzle.tiles.kinds }
+        ensures program { result.now ≡ event.program_of self.now tile.number }
+        ensures sound { IsSound result.now }
+    {
+        self.programs.of(tile)
+    }
+
+    // The tile that is next in a direction.
+    pub(crate) fn next(&self, tile: Tile, dir: Dir) -> Option<Tile>
+        requires { tile.number < length self.now.puzzle.tiles.kinds }
+        ensures next { option_map (λ t. t.number) result ≡ event.next_tile self.now tile.number dir }
+        ensures other { IfSome result (λ next. tile.number ≢ next.number) }
+    {
+        self.puzzle.tiles.neighbour(tile, dir)
+    }
+
+    // Whether a compute tile waits for a value from a port.
+    fn is_waiting(&self, state: &State, tile: Tile, dir: Dir) -> bool
+        requires { Fits self.now state.now.state }
+        ensures is { result ≡ event.is_waiting self.now state.now.state tile.number dir }
+        ensures there { IsTrue result → tile.number < length self.now.puzzle.tiles.kinds }
+    {
+        if !self.is_compute(tile) {
+            return false;
+        }
+        state.node(tile).wants(self.program(tile), dir)
+    }
+
+    // Whether a compute tile gives a value to a port.
+    fn is_giving(&self, state: &State, tile: Tile, dir: Dir) -> bool
+        requires { Fits self.now state.now.state }
+        ensures is { result ≡ event.is_giving self.now state.now.state tile.number dir }
+        ensures there { IsTrue result → tile.number < length self.now.puzzle.tiles.kinds }
+    {
+        if !self.is_compute(tile) {
+            return false;
+        }
+        state.node(tile).offers(dir).is_some()
+    }
+
+    // Whether a stack takes one more value.
+    fn has_room(&self, state: &State, tile: Tile) -> bool
+        requires { Fits self.now state.now.state }
+        ensures { result ≡ event.has_room self.now state.now.state tile.number }
+    {
+        if !self.is_memory(tile) {
+            return false;
+        }
+        !state.stack(tile).is_full()
+    }
+
+    // Whether a stack has a value to give.
+    fn has_value(&self, state: &State, tile: Tile) -> bool
+        requires { Fits self.now state.now.state }
+        ensures { result ≡ event.has_value self.now state.now.state tile.number }
+    {
+        if !self.is_memory(tile) {
+            return false;
+        }
+        !state.stack(tile).is_empty()
+    }
+
+    // Whether an output stands at a position.
+    fn output_stands(&self, state: &State, position: u8) -> bool
+        requires { Fits self.now state.now.state }
+        ensures { result ≡ has_output self.now.puzzle.outputs position }
+    {
+        state.out(position).is_some()
+    }
+
+    // The tile at the bottom of a column.
+    pub(crate) fn bottom(&self, position: u8) -> Tile
+        requires { position < self.now.puzzle.tiles.shape.columns }
+        ensures { result.number ≡ event.bottom_of self.now position }
+    {
+        let shape = self.puzzle.tiles.shape();
+        Tile {
+            number: position + shape.columns * (shape.rows - 1),
+        }
+    }
+
+    // Whether a compute tile can do an instruction without a port.
+    pub(crate) fn can_local(&self, state: &State, tile: Tile) -> bool
+        requires { Fits self.now state.now.state }
+        ensures { result ≡ event.is_enabled self.now state.now.state (events.Local tile) }
+    {
+        if !self.is_compute(tile) {
+            return false;
+        }
+        state.node(tile).can_local(self.program(tile))
+    }
+
+    // Whether a tile gives to the next one, which waits for it.
+    pub(crate) fn can_meet(&self, state: &State, tile: Tile, dir: Dir) -> bool
+        requires { Fits self.now state.now.state }
+        ensures { result ≡ event.is_enabled self.now state.now.state (events.Meet tile dir) }
+    {
+        if !self.is_giving(state, tile, dir) {
+            return false;
+        }
+        match self.next(tile, dir) {
+            Some(reader) => self.is_waiting(state, reader, opposite(dir)),
+            None => false,
+        }
+    }
+
+    // Whether the tile below an input waits for its next value.
+    pub(crate) fn can_take(&self, state: &State, position: u8) -> bool
+        requires { Fits self.now state.now.state }
+        ensures { result ≡ event.is_enabled self.now state.now.state (events.In position) }
+    {
+        if self.puzzle.tiles.shape().columns <= position {
+            return false;
+        }
+        if state.count_left(position) == 0 {
+            return false;
+        }
+        self.is_waiting(state, Tile { number: position }, Dir::Up)
+    }
+
+    // Whether the tile above an output gives to it.
+    pub(crate) fn can_give(&self, state: &State, position: u8) -> bool
+        requires { Fits self.now state.now.state }
+        ensures { result ≡ event.is_enabled self.now state.now.state (events.Out position) }
+    {
+        if self.puzzle.tiles.shape().columns <= position {
+            return false;
+        }
+        if !self.output_stands(state, position) {
+            return false;
+        }
+        self.is_giving(state, self.bottom(position), Dir::Down)
+    }
+
+    // Whether a tile gives to a stack that isn't full.
+    pub(crate) fn can_push(&self, state: &State, tile: Tile, dir: Dir) -> bool
+        requires { Fits self.now state.now.state }
+        ensures { result ≡ event.is_enabled self.now state.now.state (events.Push tile dir) }
+    {
+        if !self.is_giving(state, tile, dir) {
+            return false;
+        }
+        match self.next(tile, dir) {
+            Some(stack) => self.has_room(state, stack),
+            None => false,
+        }
+    }
+
+    // Whether a tile waits for a value from a stack that isn't empty.
+    pub(crate) fn can_pop(&self, state: &State, tile: Tile, dir: Dir) -> bool
+        requires { Fits self.now state.now.state }
+        ensures { result ≡ event.is_enabled self.now state.now.state (events.Pop tile dir) }
+    {
+        if !self.is_waiting(state, tile, dir) {
+            return false;
+        }
+        match self.next(tile, dir) {
+            Some(stack) => self.has_value(state, stack),
+            None => false,
+        }
+    }
+}
