@@ -21,5 +21,4 @@ pub mod ColumnKahn
 pub mod BodyValues
 pub mod ColumnPrograms
 pub mod Columns
-pub mod Examples
 mod StreamExamples

@@ -51,5 +51,7 @@ pub(crate) fn push_image(out: &mut Vec<u8>, position: u8, values: &Values) -> Re
 {
     push_head(out, b"image ", position)?;
     out.push(b'\n')?;
-    push_rows(out, &drawn(values))
+    let console = drawn(values);
+    push_rows(out, &console)?;
+    Ok(())
 }
