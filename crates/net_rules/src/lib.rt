@@ -20,9 +20,11 @@
 #![tactic(auto)]
 
 mod laws;
+mod loops;
 mod sure;
 mod uses;
 
 pub use laws::processes_wait;
+pub use loops::first_loop_without_read;
 pub use sure::surely_reads;
 pub use uses::{changes, read_of, written_of};
