@@ -16,7 +16,6 @@ use Rattle.lua_grammar.specs.Grammar.{IsSemicolon, present, absent, IsLocalValue
 use Rattle.lua_grammar.specs.Grammar.{AreParameters, no_parameters, parameters, AreMoreParameters, last_parameter, another_parameter, AreItems, no_items, function, assignment, IsChunkOf}
 
 infixr 60 ◌then◌
-
 -- the tokens of a form, and what they open
 pub data Nesting : Type 0 where
   -- no token

@@ -1,0 +1,15 @@
+//! What chunks of Lua compute.
+//!
+//! So far this is the meaning alone, for whoever reads it beside the language: `Yields` of `specs/Answer.antt`
+//! says what a call of a function of a chunk gives, with its cost in units, and `specs/Yields.antt` has one
+//! case for each kind of node, over values (`Value.antt`), tables as numbered rows (`Tables.antt`), variables and
+//! the random words that are left (`State.antt`). What operators and the libraries make of values are functions
+//! (`Operators.antt`, `Library.antt`). A chunk that never ends comes to nothing there, and a call that would pay
+//! more than 500,000 units runs out (`RunsOut`).
+//!
+//! Nothing here evaluates a chunk yet.
+#![tactic(auto)]
+
+mod error;
+
+pub use error::LuaError;
