@@ -1,10 +1,10 @@
 //! The text of a grid.
-ghost use Rattle.std.specs.Prelude.{◌≡◌, ◌++◌, map, length, option_map, Some, IfSome};
+ghost use Rattle.std.specs.Prelude.{◌≡◌, ◌++◌, map, length, option_map, Some, IfSome, IfOk};
 ghost use Rattle.std.specs.List.{list_all};
 ghost use Rattle.tis_base.specs.Answers.{Gives};
 ghost use Rattle.tis_words.specs.Words.{words_in};
 ghost use Rattle.tis_words.specs.Numerals.{number_of as spelled_number};
-ghost use Rattle.tis_grid.specs.Puzzle.{has_input, has_output, input_of, output_of};
+ghost use Rattle.tis_grid.specs.Puzzle.{IsPuzzle, puzzle_of, has_input, has_output, input_of, output_of};
 ghost use Rattle.tis_grid_text.specs.GridText.{is_head, kind_of, row_of, tiles_of, bare, values_of, is_colour, black, shown, image_of, input_at, output_at, port_of, grid_of};
 ghost use Rattle.tis_grid_text.specs.Answering.{AnswersGrid, AddsLine, GivesSome, ReadsHead};
 
@@ -310,7 +310,8 @@ fn read_head(lines: &mut NonBlankLines<'_>, missing: usize) -> Result<Tiles, Gri
 /// The puzzle of a text: `grid 1`, then `tiles` and three rows of four letters, and then inputs, outputs and
 /// images in any order. The first wrong line is refused.
 pub fn read_grid(alloc: Global, text: &[u8]) -> Result<Puzzle, GridTextError>
-    ensures { AnswersGrid result (grid_of text.now) }
+    ensures grid { AnswersGrid result (grid_of text.now) }
+    ensures puzzle { IfOk result (λ read. IsPuzzle (puzzle_of read)) }
 {
     let mut lines = NonBlankLines::new(text, Comments::BehindHash);
     let tiles = read_head(&mut lines, line_count(text) + 1)?;

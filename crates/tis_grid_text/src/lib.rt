@@ -29,7 +29,9 @@
 mod error;
 mod events;
 mod grid;
+mod laws;
 
 pub use error::{EventsError, GridTextError};
 pub use events::read_events;
 pub use grid::read_grid;
+pub use laws::grids_are_puzzles;
