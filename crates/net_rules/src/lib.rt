@@ -14,10 +14,17 @@
 //!
 //! # What it doesn't do
 //!
-//! No call here looks at a network yet: what stands are the definitions and what is known of them. It knows nothing
+//! No call here looks at a whole network yet: what stands are the definitions, what is known of them, and what one
+//! statement or body reads, writes and changes ([`read_of`], [`written_of`], [`changes`], [`surely_reads`]). It knows nothing
 //! of tiles, programs or grids.
 #![tactic(auto)]
 
 mod laws;
+mod loops;
+mod sure;
+mod uses;
 
 pub use laws::processes_wait;
+pub use loops::first_loop_without_read;
+pub use sure::surely_reads;
+pub use uses::{changes, read_of, written_of};
