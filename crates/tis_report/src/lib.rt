@@ -34,3 +34,6 @@ mod report;
 mod stream;
 
 pub use report::{ended_report, not_enabled_report, replayed_report};
+
+#[cfg(test)]
+mod tests;
