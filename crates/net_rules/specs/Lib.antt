@@ -1,6 +1,8 @@
 pub mod Uses
+pub mod Sizes
 pub mod Numbers
 pub mod Rules
+pub mod Loops
 pub mod Process
 pub mod Kahn
 pub mod Sure

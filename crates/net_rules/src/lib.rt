@@ -1,6 +1,30 @@
-//! Rules.
+//! Which networks are accepted, what their processes do, and the streams that they send.
+//!
+//! # What it is for
+//!
+//! - `specs/Rules.antt` has each rule of networks as a definition of its own, and the first that is broken.
+//! - `specs/Process.antt` says what a process does over whole streams, step by step: both variables, branches,
+//!   loops, and where it waits. From here on a name is its number (`specs/Numbers.antt`).
+//! - `specs/Kahn.antt` gives a network its streams, after Kahn 1974, and the bound on the steps of its processes.
+//!
+//! # What the layers above use
+//!
+//! [`processes_wait`]: from the rules alone, a process never runs out of fuel, whatever it reads; so the streams are
+//! those of a process that never ends.
+//!
+//! # What it doesn't do
+//!
+//! No call here looks at a whole network yet: what stands are the definitions, what is known of them, and what one
+//! statement or body reads, writes and changes ([`read_of`], [`written_of`], [`changes`], [`surely_reads`]). It knows nothing
+//! of tiles, programs or grids.
 #![tactic(auto)]
 
 mod laws;
+mod loops;
+mod sure;
+mod uses;
 
 pub use laws::processes_wait;
+pub use loops::first_loop_without_read;
+pub use sure::surely_reads;
+pub use uses::{changes, read_of, written_of};

@@ -146,7 +146,7 @@ declaration_is (DeclaresProcess process) lines is net rest =
     ∙ block_is process.body 16 inner is.3 net (begun process) (line end forms.End ∷ rest) (omega arith)
     ∙ goes_on (during net (holding (begun process) process.body)) (between (with_declaration net (DeclaresProcess process))) end forms.End rest refl
 
-declarations_are : (declarations : List Declaration) (lines : List Line) → AreDeclarations 16 declarations lines → (net : Net) → after_lines (between net) lines ≡ Ok (between (with_declarations net declarations))
+pub declarations_are : (declarations : List Declaration) (lines : List Line) → AreDeclarations 16 declarations lines → (net : Net) → after_lines (between net) lines ≡ Ok (between (with_declarations net declarations))
 declarations_are [] lines is net = ap (after_lines (between net)) is ∙ nothing_more (between net)
 declarations_are (declaration ∷ declarations) lines is net =
     ap (after_lines (between net)) is.2 ∙ declaration_is declaration is.0 is.3 net is.1 ∙ declarations_are declarations is.1 is.4 (with_declaration net declaration)

@@ -4,6 +4,10 @@ mod Reversed
 mod Limits
 mod Derived
 mod Plain
+mod Spoken
+mod Again
+mod AgainParts
+mod AgainText
 mod Sound
 mod Blamed
 mod Open

@@ -9,7 +9,7 @@ use Rattle.net_syntax.specs.Forms.{LineForm, Line, lines_of}
 use Rattle.net_syntax.specs.Grammar.{line, IsNet, bare_net, with_declarations, GoesOn, GoesOnDeeper, IsCloser, IsRefusal, IsAnswer, next_number}
 use Rattle.net_syntax.specs.Reading.{BlockRole, FirstOf, WhileOf, CountOf, OpenStatement, OpenProcess, Configuration, after_line, after_lines, and_then, still_open, with_open_block, second_role, else_in, after_else, after_end, line_inside, line_outside, refusal_of, innermost_line, answer_of, statement_with, net_at_end, after_all, net_of}
 use Rattle.net_syntax.proofs.Blamed.{IsBlockLine, IsBlamedOn, IsBlamed}
-use Rattle.net_syntax.proofs.Plain.{ArePlain, lines_are_plain}
+use Rattle.net_syntax.proofs.Plain.{AreRows, IsPlainForm, ArePlain, lines_are_plain}
 use Rattle.net_syntax.proofs.Limits.{stops_here}
 use Rattle.net_syntax.proofs.Derived.{during, between, net_is}
 use Rattle.net_syntax.proofs.Sound.{lines_are, read_is_derived}
@@ -226,12 +226,12 @@ blamed_whole : {X : Type 0} (next : ℕ) (lines : List Line) (one two : NetRefus
 blamed_whole next lines one two e is = subst (IsBlamed next lines) (same_refusal one two e) is
 
 -- the lines behind the first two
-tail_blamed : (next number second : ℕ) (tiles : Tiles) (others : List Line) (refusal : NetRefusal) → ArePlain others → (read : Result Configuration NetRefusal) → after_lines (between (bare_net tiles)) others ≡ read → and_then read (λ sofar. net_at_end sofar.net sofar.open_process) ≡ Err refusal → IsBlamed next (line number forms.Version ∷ (line second (forms.TilesLine tiles) ∷ others)) refusal
+tail_blamed : (next number second : ℕ) (tiles : Tiles) (others : List Line) (refusal : NetRefusal) → AreRows tiles → ArePlain others → (read : Result Configuration NetRefusal) → after_lines (between (bare_net tiles)) others ≡ read → and_then read (λ sofar. net_at_end sofar.net sofar.open_process) ≡ Err refusal → IsBlamed next (line number forms.Version ∷ (line second (forms.TilesLine tiles) ∷ others)) refusal
 unfolding and_then
-tail_blamed next number second tiles others refusal plain (Ok sofar) is e = by sofar.open_process (lines_stand others (between (bare_net tiles)) sofar [] plain ([], refl) is) e
+tail_blamed next number second tiles others refusal rows plain (Ok sofar) is e = by sofar.open_process (lines_stand others (between (bare_net tiles)) sofar [] plain ([], refl) is) e
   where
     goes : GoesOn (line number forms.Version ∷ (line second (forms.TilesLine tiles) ∷ others))
-    goes = goes_from next (line number forms.Version ∷ (line second (forms.TilesLine tiles) ∷ others)) sofar (tt, (tt, plain)) (λ more. behind_read (between (bare_net tiles)) sofar others more is)
+    goes = goes_from next (line number forms.Version ∷ (line second (forms.TilesLine tiles) ∷ others)) sofar (tt, (rows, plain)) (λ more. behind_read (between (bare_net tiles)) sofar others more is)
 
     by : (open_process : Option OpenProcess) → IsStanding open_process others → net_at_end sofar.net open_process ≡ Err refusal → IsBlamed next (line number forms.Version ∷ (line second (forms.TilesLine tiles) ∷ others)) refusal
     by None stands ok = absurd (refused_not _ refusal ok)
@@ -239,12 +239,12 @@ tail_blamed next number second tiles others refusal plain (Ok sofar) is e = by s
         blamed_whole next (line number forms.Version ∷ (line second (forms.TilesLine tiles) ∷ others)) (Unclosed (innermost_line opened opened.around)) refusal err
         (let u = is_unclosed opened opened.around (suc stands.0) others stands.2 in
         inr (goes, (line number forms.Version ∷ (line second (forms.TilesLine tiles) ∷ u.0), u.1, u.2, ap (λ (ls : List Line). line number forms.Version ∷ (line second (forms.TilesLine tiles) ∷ ls)) u.3, u.4)))
-tail_blamed next number second tiles others refusal plain (Err r) is e =
+tail_blamed next number second tiles others refusal rows plain (Err r) is e =
     let start = between (bare_net tiles) in
     let s = stops_in others start r is in
     let front : List Line = line number forms.Version ∷ (line second (forms.TilesLine tiles) ∷ s.before) in
     let plain_before : ArePlain s.before = plain_first s.before (s.wrong ∷ s.behind) (subst ArePlain s.split plain) in
-    let goes : GoesOn front = goes_from next front s.reached (tt, (tt, plain_before)) (λ more. behind_read start s.reached s.before more s.goes) in
+    let goes : GoesOn front = goes_from next front s.reached (tt, (rows, plain_before)) (λ more. behind_read start s.reached s.before more s.goes) in
     let deeper : (n : ℕ) → IsBlockLine s.wrong.form → r ≡ TooDeep n → GoesOnDeeper front s.wrong =
     λ n opens deep.
     (let d = too_deep_goes_on s.reached.net s.reached.open_process s.before s.wrong.number s.wrong.form n opens (lines_stand s.before start s.reached [] plain_before ([], refl) s.goes) (s.stops ∙ ap (λ (x : NetRefusal). Err x) deep) in
@@ -265,10 +265,10 @@ tail_blamed next number second tiles others refusal plain (Err r) is e =
     )
 
 -- the second line
-second_blamed : (next number second : ℕ) (form : LineForm) (others : List Line) (refusal : NetRefusal) → ArePlain others → answer_of next (line number forms.Version ∷ (line second form ∷ others)) ≡ Err refusal → IsBlamed next (line number forms.Version ∷ (line second form ∷ others)) refusal
+second_blamed : (next number second : ℕ) (form : LineForm) (others : List Line) (refusal : NetRefusal) → IsPlainForm form → ArePlain others → answer_of next (line number forms.Version ∷ (line second form ∷ others)) ≡ Err refusal → IsBlamed next (line number forms.Version ∷ (line second form ∷ others)) refusal
 unfolding and_then is_tiles
-second_blamed next number second (forms.TilesLine tiles) others refusal plain e = tail_blamed next number second tiles others refusal plain (after_lines (between (bare_net tiles)) others) refl e
-second_blamed next number second form others refusal plain e =
+second_blamed next number second (forms.TilesLine tiles) others refusal rows plain e = tail_blamed next number second tiles others refusal rows plain (after_lines (between (bare_net tiles)) others) refl e
+second_blamed next number second form others refusal said plain e =
     inl (
       line second form,
       record { before = line number forms.Version ∷ []; behind = others; split = refl; goes_on = version_goes_on number; stops = never next (line number forms.Version ∷ (line second form ∷ [])) (refusal_of second form) (λ more. refl) },
@@ -279,7 +279,7 @@ second_blamed next number second form others refusal plain e =
 first_blamed : (next number : ℕ) (form : LineForm) (others : List Line) (refusal : NetRefusal) → ArePlain others → answer_of next (line number form ∷ others) ≡ Err refusal → IsBlamed next (line number form ∷ others) refusal
 unfolding and_then is_version
 first_blamed next number forms.Version [] refusal plain e = blamed_whole next (line number forms.Version ∷ []) (BadLine next) refusal e (inr (version_goes_on number, (omega arith, refl)))
-first_blamed next number forms.Version (second ∷ others) refusal plain e = second_blamed next number second.number second.form others refusal plain.1 e
+first_blamed next number forms.Version (second ∷ others) refusal plain e = second_blamed next number second.number second.form others refusal plain.0 plain.1 e
 first_blamed next number form others refusal plain e =
     inl (
       line number form,

@@ -6,7 +6,9 @@
 //! in `specs/Grammar.antt`: which lines are a block, which are a network, and what the first line is
 //! with which no network goes on. `networks_are_read` is the law that each network of the grammar is
 //! the one that is read, and `read_networks_are_derived` that no other is. By
-//! `texts_are_answered` every answer, each refusal too, is what the grammar says of the lines.
+//! `texts_are_answered` every answer, each refusal too, is what the grammar says of the lines. By
+//! `written_networks_are_read` the canonical text of a network that was read gives it again, with other line
+//! numbers.
 //!
 //! ```text
 //! let net = read_net(alloc, b"net 1\ntiles CCCC CCCC CCCC\nprocess p\nmove a o\nend\n")?;
@@ -36,7 +38,9 @@ mod rows;
 mod unread;
 
 pub use error::NetError;
-pub use laws::{networks_are_read, read_networks_are_derived, texts_are_answered};
+pub use laws::{
+    networks_are_read, read_networks_are_derived, texts_are_answered, written_networks_are_read,
+};
 pub use net_tree::{
     Block, ChannelLine, Name, Net, Path, PortLine, ProcessText, Statement, Test, Var, write_net,
 };

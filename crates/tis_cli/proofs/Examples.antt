@@ -3,9 +3,9 @@ use Rattle.std.proofs.Common.{◌≡◌, ℕ, List, [], ◌∷◌, refl}
 use Rattle.std.specs.Prelude.{codes, Some, Ok}
 use Rattle.std.specs.Fmt.{digits}
 use Rattle.tis_asm.specs.Programs.{Programs}
-use Rattle.tis_cli.specs.Column.{Column, column_net, plain_tiles}
-use Rattle.tis_cli.specs.Compiled.{pass_code, compiled}
-use Rattle.tis_cli.specs.Net.{Move}
+use Rattle.net_column.specs.Column.{Column, column_net, plain_tiles}
+use Rattle.net_column.specs.Compiled.{pass_code, compiled}
+use Rattle.net_column.specs.Net.{Move}
 use Rattle.tis_save.specs.Writing.{save_text}
 use Rattle.tis_save.specs.Reading.{save_of}
 

@@ -3,21 +3,19 @@ use Rattle.std.proofs.Common.{◌≡◌, ℕ, List, [], ◌∷◌, Option, Some,
 use Rattle.std.specs.Prelude.{IfSome, Ok}
 use Rattle.tis_base.specs.Outside.{Texts, text_at, with_text}
 use Rattle.tis_cli.specs.declared.status.Refusal.TheVariants.{NotThisForm}
-use Rattle.tis_cli.specs.declared.net_syntax.tree.NetError.{NetError}
-use Rattle.tis_cli.specs.declared.net_syntax.tree.NetError.TheVariants as unread
+use Rattle.net_column.specs.declared.tree.NetError.{NetError}
+use Rattle.net_column.specs.declared.tree.NetError.TheVariants as unread
 use Rattle.tis_cli.specs.Statuses.{net_status}
 use Rattle.tis_cli.specs.Answers.{Refuses, Makes, AllDone}
 use Rattle.tis_cli.specs.Commands.{Compile, IsCompiled}
-use Rattle.tis_cli.specs.Net.{Net}
-use Rattle.tis_cli.specs.Column.{column_net, NetOf}
-use Rattle.tis_cli.specs.Compiled.{compiled}
+use Rattle.net_column.specs.Net.{Net}
+use Rattle.net_column.specs.Column.{NetOf}
+use Rattle.net_column.specs.Compiled.{compiled}
 use Rattle.tis_save.specs.Writing.{save_text}
 use Rattle.tis_save.specs.Reading.{save_of}
 use Rattle.tis_cli.specs.Outcomes.{texts_under, with_first, IsAnswered, Explains}
 use Rattle.tis_cli.specs.declared.status.Status.TheVariants.{Done, Refused}
-use Rattle.tis_cli.proofs.Columns.{net_carries}
-use Rattle.tis_cli.proofs.ColumnPrograms.{column_are_programs, column_is_sound}
-use Rattle.tis_save.proofs.SavesReadBack.{saves_read_back}
+use Rattle.net_column.specs.Carries.{Carries}
 
 -- what a store told of its texts, where it told them
 pub told_is : (told : Option Texts) (P : Texts → Type 0) → IfSome told P → (texts : Texts) → told ≡ Some texts → P texts
@@ -32,23 +30,17 @@ one_stands texts name text stands = ap (λ (first : Option (List ℕ)). with_fir
 pub one_missing : (texts : Texts) (name : List ℕ) → text_at texts name ≡ None → texts_under texts (name ∷ []) ≡ None
 one_missing texts name none = ap (λ (first : Option (List ℕ)). with_first first (Some [])) none
 
--- the save of a network's programs is read as these programs
-net_reads_back : (text : List ℕ) (net : Net) → NetOf text net → save_of (save_text (compiled net)) net.tiles ≡ Ok (compiled net)
-net_reads_back text net of =
-    subst (λ (n : Net). save_of (save_text (compiled n)) n.tiles ≡ Ok (compiled n)) (sym of.net_is)
-    (saves_read_back (compiled (column_net of.column)) (record { allowed = (refl, refl); filled = refl }) (column_are_programs of.column of.is_column) (column_is_sound of.column))
-
 -- the save of a network is all that is promised of it
-compiled_as_promised : (text bytes : List ℕ) (net : Net) → NetOf text net → bytes ≡ save_text (compiled net) → IsCompiled (text ∷ []) bytes
-compiled_as_promised text bytes net of written =
+compiled_as_promised : (text bytes : List ℕ) (net : Net) → NetOf text net → bytes ≡ save_text (compiled net) → save_of bytes net.tiles ≡ Ok (compiled net) → Carries (compiled net) net → IsCompiled (text ∷ []) bytes
+compiled_as_promised text bytes net of written reads_back carries =
     record {
       text = text;
       net = net;
       is_text = refl;
       is_net = of;
       saved = written;
-      reads_back = ap (λ (b : List ℕ). save_of b net.tiles) written ∙ net_reads_back text net of;
-      carries = net_carries text net of;
+      reads_back = reads_back;
+      carries = carries;
     }
 
 module _ (told : Option Texts) (name save text seen : List ℕ) (fetched : IfSome told (λ texts. text_at texts name ≡ Some text)) (same : seen ≡ text) where
@@ -77,9 +69,9 @@ module _ (told : Option Texts) (name save text seen : List ℕ) (fetched : IfSom
   unread_explained new stayed written unread.NoMemory none = tt
 
   -- a text that was fetched and is a network is compiled: its save was kept
-  pub saved_explained : (between new : Option Texts) (bytes : List ℕ) (net : Net) → NetOf seen net → bytes ≡ save_text (compiled net) → between ≡ told → new ≡ option_map (λ texts. with_text texts save bytes) between →
+  pub saved_explained : (between new : Option Texts) (bytes : List ℕ) (net : Net) → NetOf seen net → bytes ≡ save_text (compiled net) → save_of bytes net.tiles ≡ Ok (compiled net) → Carries (compiled net) net → between ≡ told → new ≡ option_map (λ texts. with_text texts save bytes) between →
       (written : Option (List ℕ)) (texts : Texts) → told ≡ Some texts → IsAnswered (Compile name save) texts written Done (record { texts = new; written = written })
-  saved_explained between new bytes net of is_save stayed kept written texts is =
+  saved_explained between new bytes net of is_save reads_back carries stayed kept written texts is =
       let is_net : NetOf text net = subst (λ (t : List ℕ). NetOf t net) same of in
       record {
         found = text ∷ [];
@@ -88,5 +80,5 @@ module _ (told : Option Texts) (name save text seen : List ℕ) (fetched : IfSom
         comes = (net, is_net, refl, is_save);
         status_is = refl;
         arrives = (kept ∙ ap (option_map (λ (t : Texts). with_text t save bytes)) (stayed ∙ is), refl);
-        promised = compiled_as_promised text bytes net is_net is_save;
+        promised = compiled_as_promised text bytes net is_net is_save reads_back carries;
       }

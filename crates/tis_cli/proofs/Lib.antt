@@ -1,27 +1,3 @@
-pub mod Parts
-pub mod Steps
-pub mod Numerals
-pub mod BodyLines
-pub mod Distinct
-pub mod Spelling
-pub mod Found
-pub mod Emitted
 pub mod Explained
 pub mod Statuses
-pub mod GridLaws
-pub mod Stage
-pub mod PassStage
-pub mod Pipeline
-pub mod Bodies
-pub mod Fuel
-pub mod Rounds
-pub mod Instructions
-pub mod Places
-pub mod BodyStage
-pub mod ColumnStages
-pub mod ColumnKahn
-pub mod BodyValues
-pub mod ColumnPrograms
-pub mod Columns
 pub mod Examples
-mod StreamExamples

@@ -4,13 +4,13 @@ use Rattle.tis_base.specs.Outside.{Texts}
 use Rattle.tis_cli.specs.declared.status.Status.{Status}
 use Rattle.tis_cli.specs.declared.status.Status.TheVariants.{Done, Words, Refused, Missing, StoreFault, SinkFault, NoMemory}
 use Rattle.tis_cli.specs.declared.status.Refusal.{Refusal}
-use Rattle.tis_cli.specs.Net.{Net}
-use Rattle.tis_cli.specs.Compiled.{compiled}
+use Rattle.net_column.specs.Net.{Net}
+use Rattle.net_column.specs.Compiled.{compiled}
 use Rattle.tis_save.specs.Writing.{save_text}
 use Rattle.tis_cli.specs.Answers.{Completion, AllDone, Answer, Refuses, Makes, Kept, Put, answer_status}
 use Rattle.tis_cli.specs.Commands.{Command, Compile, command_of, fetched, destination_of, CompilesTo, ComesTo, AnswersAreOne}
 use Rattle.tis_cli.specs.Outcomes.{IsCalled, PutsReport, PutsBytes, texts_under, World, IsOfAnswer, IsAnswered, IsUnlessFailure, Explains}
-use Rattle.tis_cli.proofs.Found.{texts_have_one_net}
+use Rattle.net_column.proofs.Found.{texts_have_one_net}
 
 same_texts : {a b : List (List ℕ)} {found : Option (List (List ℕ))} → found ≡ Some a → found ≡ Some b → a ≡ b
 same_texts is other = cc

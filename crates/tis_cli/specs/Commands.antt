@@ -5,10 +5,10 @@ use Rattle.tis_cli.specs.declared.command.Command as held
 use Rattle.tis_cli.specs.declared.command.Command.TheVariants as held_as
 use Rattle.tis_cli.specs.declared.status.Refusal.TheVariants.{NotThisForm}
 use Rattle.tis_cli.specs.Answers.{Answer, Refuses, Makes, AllDone, Destination, Kept}
-use Rattle.tis_cli.specs.Net.{Net}
-use Rattle.tis_cli.specs.Column.{NetOf}
-use Rattle.tis_cli.specs.Compiled.{compiled}
-use Rattle.tis_cli.specs.Carries.{Carries}
+use Rattle.net_column.specs.Net.{Net}
+use Rattle.net_column.specs.Column.{NetOf}
+use Rattle.net_column.specs.Compiled.{compiled}
+use Rattle.net_column.specs.Carries.{Carries}
 use Rattle.tis_save.specs.Writing.{save_text}
 use Rattle.tis_save.specs.Reading.{save_of}
 

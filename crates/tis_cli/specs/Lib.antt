@@ -1,15 +1,4 @@
-pub mod Net
-pub mod NetText
-pub mod Column
-pub mod Reading
-pub mod NetView
-pub mod Compiled
-pub mod Emission
 pub mod Answers
 pub mod Commands
-pub mod Process
-pub mod Kahn
-pub mod Carries
 pub mod Outcomes
 pub mod Statuses
-pub mod Behaves

@@ -2,8 +2,8 @@
 use Rattle.std.specs.Prelude.{ℕ, List, [], ◌++◌, codes}
 use Rattle.tis_base.specs.declared.store.StoreError.{StoreError}
 use Rattle.tis_base.specs.declared.store.StoreError.TheVariants as fault
-use Rattle.tis_cli.specs.declared.net_syntax.tree.NetError.{NetError}
-use Rattle.tis_cli.specs.declared.net_syntax.tree.NetError.TheVariants as unread
+use Rattle.net_column.specs.declared.tree.NetError.{NetError}
+use Rattle.net_column.specs.declared.tree.NetError.TheVariants as unread
 use Rattle.tis_cli.specs.declared.status.Status.{Status}
 use Rattle.tis_cli.specs.declared.status.Status.TheVariants.{Done, Words, Refused, Missing, StoreFault, SinkFault, NoMemory}
 use Rattle.tis_cli.specs.declared.status.Refusal.{Refusal}

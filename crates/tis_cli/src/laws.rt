@@ -1,29 +1,7 @@
-//! Laws of networks and of the programs that they are compiled to.
-ghost use Rattle.tis_cli.specs.Behaves.{ProcessesBehave, ProcessesWait};
-ghost use Rattle.tis_cli.specs.Column.{TextsHaveOneNet};
+//! Laws of commands.
 ghost use Rattle.tis_cli.specs.Commands.{AnswersAreOne};
-ghost use Rattle.tis_cli.specs.Kahn.{StepsWithinLimits};
-ghost use Rattle.tis_cli.specs.Process.{FuelBoundsSteps};
 
-/// The code of a process of a column behaves as the process.
-pub fn processes_behave()
-    ensures { ProcessesBehave }
-{}
-
-/// A process of a column never runs out of fuel: it comes to wait for one more value.
-pub fn processes_wait()
-    ensures { ProcessesWait }
-{}
-
-/// A process begins fewer steps than it has fuel, and the processes of a network take no more steps
-/// than they may.
-pub fn steps_are_bounded()
-    ensures fuel { FuelBoundsSteps }
-    ensures limits { StepsWithinLimits }
-{}
-
-/// A text is that of one network at most, and the texts of a command come to one answer.
-pub fn texts_say_one_thing()
-    ensures nets { TextsHaveOneNet }
-    ensures answers { AnswersAreOne }
+/// The texts of a command come to one answer.
+pub fn answers_are_one()
+    ensures { AnswersAreOne }
 {}

@@ -10,7 +10,8 @@
 //!
 //! The clauses of `tool`: each answer has its cause, nothing but what the command keeps or puts has changed,
 //! and where `compile` is done, its save is read back to programs that follow the network in every order.
-//! `docs/promises.md` has them in plain words. Below it, `specs/Commands.antt` says of each command what it
+//! `docs/promises.md` has them in plain words. What is promised of the programs comes from `net_column`, whose
+//! clauses are all that the proofs here use of it. Below `tool`, `specs/Commands.antt` says of each command what it
 //! fetches, where what it makes goes, what it comes to, and what is promised; `specs/Outcomes.antt` says what each
 //! status means, for any command.
 //!
@@ -36,12 +37,10 @@
 
 mod command;
 mod laws;
-mod net_emit;
-mod net_syntax;
 mod run;
 mod status;
 
-pub use laws::{processes_behave, processes_wait, steps_are_bounded, texts_say_one_thing};
+pub use laws::answers_are_one;
 pub use run::tool;
 pub use status::{Refusal, Status, describe};
 

@@ -6,9 +6,8 @@ ghost use Rattle.tis_cli.specs.Commands.{Command as SomeCommand, Compile, comman
 ghost use Rattle.tis_cli.specs.Outcomes.{words_of, IsCalled, PutsReport, PutsBytes, texts_under, IsOfAnswer, IsOfWork, IsAnswered, IsCutShort, IsUnlessFailure, status_after, Explains};
 
 use crate::command::{Command, read_words};
-use crate::net_emit::emit;
-use crate::net_syntax::read_net;
 use crate::status::Status;
+use net_column::{emit, read_net};
 use std::alloc::Global;
 use tis_base::{Sink, Store};
 use tis_save::write_save;

@@ -3,7 +3,7 @@ ghost use Rattle.std.specs.Prelude.{◌≡◌};
 ghost use Rattle.tis_base.specs.Answers.{Gives};
 ghost use Rattle.tis_cli.specs.Statuses.{number_of, refusal_words, status_line};
 
-use crate::net_syntax::NetError;
+use net_column::NetError;
 use std::alloc::Global;
 use tis_base::{NoMemory, StoreError};
 

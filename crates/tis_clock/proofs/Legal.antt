@@ -7,7 +7,7 @@ use Rattle.tis_grid.specs.declared.event.Event.{Event}
 use Rattle.tis_grid.specs.State.{Grid, State, node_at}
 use Rattle.tis_grid.specs.Events.{is_enabled, after_event}
 use Rattle.tis_grid.specs.Orders.{after}
-use Rattle.tis_clock.specs.Cycle.{is_ready, is_writing, directions, ways_of_ready, gives_old, first_way, reads_or_steps, ways_to_give, gives_out, state_after, and_then, in_turn, all_tiles, first_half, second_half, cycle_events, after_cycle, cycles_events, after_cycles}
+use Rattle.tis_clock.specs.Cycle.{writers, is_ready, is_writing, directions, ways_of_ready, gives_old, first_way, reads_or_steps, ways_to_give, gives_out, state_after, and_then, in_turn, all_tiles, first_half, second_half, cycle_events, after_cycle, cycles_events, after_cycles}
 use Rattle.tis_clock.specs.Laws.{CyclesAreLegal, RunsAreLegal}
 
 -- what is found passes the test
@@ -28,12 +28,12 @@ pub chosen_where : (test : Bool) (choice : Option Event) (event : Event) → con
 chosen_where true choice event is = is
 chosen_where false choice event is = absurd cc
 
-pub readers_choose : (grid : Grid) (before : State) → ChoosesEnabled grid (reads_or_steps grid before)
+pub readers_choose : (grid : Grid) (before : State) → ChoosesEnabled grid (reads_or_steps grid (writers before))
 readers_choose grid before now tile event is =
-    let found : first_way grid before now (ways_of_ready grid tile) ≡ Some event = chosen_where (is_ready (node_at before tile).mode) (first_way grid before now (ways_of_ready grid tile)) event is in
-    (and_parts (gives_old before event) (is_enabled grid now event) (find_passes (λ e. gives_old before e && is_enabled grid now e) (ways_of_ready grid tile) event found)).1
+    let found : first_way grid (writers before) now (ways_of_ready grid tile) ≡ Some event = chosen_where (is_ready (node_at before tile).mode) (first_way grid (writers before) now (ways_of_ready grid tile)) event is in
+    (and_parts (gives_old (writers before) event) (is_enabled grid now event) (find_passes (λ e. gives_old (writers before) e && is_enabled grid now e) (ways_of_ready grid tile) event found)).1
 
-pub writers_choose : (grid : Grid) (before : State) → ChoosesEnabled grid (gives_out grid before)
+pub writers_choose : (grid : Grid) (before : State) → ChoosesEnabled grid (gives_out grid (writers before))
 writers_choose grid before now tile event is =
     find_passes (is_enabled grid now) (flat_map (ways_to_give grid tile) directions) event
     (chosen_where (is_writing (node_at before tile).mode) (find (is_enabled grid now) (flat_map (ways_to_give grid tile) directions)) event is)
@@ -69,11 +69,11 @@ pub cycles_are_legal : CyclesAreLegal
 cycles_are_legal grid state =
     let readers = first_half grid state in
     let middle = state_after grid state readers in
-    let writers = second_half grid state middle in
-    leads_then grid readers writers state middle (state_after grid middle writers)
-    (in_turn_leads grid (reads_or_steps grid state) (readers_choose grid state) (all_tiles grid) state)
-    (in_turn_leads grid (gives_out grid state) (writers_choose grid state) (all_tiles grid) middle)
-    ∙ ap Some (sym (after_both grid readers writers state))
+    let others = second_half grid state middle in
+    leads_then grid readers others state middle (state_after grid middle others)
+    (in_turn_leads grid (reads_or_steps grid (writers state)) (readers_choose grid state) (all_tiles grid) state)
+    (in_turn_leads grid (gives_out grid (writers state)) (writers_choose grid state) (all_tiles grid) middle)
+    ∙ ap Some (sym (after_both grid readers others state))
 
 pub runs_are_legal : RunsAreLegal
 runs_are_legal grid state zero = refl

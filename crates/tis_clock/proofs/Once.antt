@@ -20,7 +20,7 @@ use Rattle.tis_grid.proofs.Enabled.{enabled_parts, reached_is}
 use Rattle.tis_grid.proofs.Grids.{orders_are_runs, orders_keep_fitting}
 use Rattle.tis_grid.proofs.Listed.{IsIn, passes_filter}
 use Rattle.tis_grid.proofs.Places.{next_back, next_differs, some_columns}
-use Rattle.tis_clock.specs.Cycle.{is_ready, is_writing, directions, from_neighbour, from_above, ways_to_take, ways_of_ready, gives_old, first_way, reads_or_steps, to_below, ways_to_give, gives_out, state_after, and_then, in_turn, all_tiles, first_half, second_half, cycle_events}
+use Rattle.tis_clock.specs.Cycle.{writers, is_ready, is_writing, directions, from_neighbour, from_above, ways_to_take, ways_of_ready, gives_old, first_way, reads_or_steps, to_below, ways_to_give, gives_out, state_after, and_then, in_turn, all_tiles, first_half, second_half, cycle_events}
 use Rattle.tis_clock.specs.Laws.{TilesActOnce}
 use Rattle.tis_clock.proofs.Legal.{ChoosesEnabled, chosen_where, find_passes, readers_choose, writers_choose, step_leads, in_turn_leads}
 use Rattle.tis_clock.proofs.Resting.{writing_of_offers}
@@ -170,23 +170,23 @@ module _ (grid : Grid) (is_grid : IsGrid grid) (before : State) (tile : ℕ) whe
   abbrev FirstOf : ℕ → State → Event → Type 0
   FirstOf turn now event = InFirst turn now (steps_in grid now event tile)
 
-  by_way : (turn : ℕ) (now : State) (event : Event) → turn < size → is_ready (mode_at before turn) ≡ true → IsWay turn event → gives_old before event ≡ true → is_enabled grid now event ≡ true → FirstOf turn now event
+  by_way : (turn : ℕ) (now : State) (event : Event) → turn < size → is_ready (mode_at before turn) ≡ true → IsWay turn event → gives_old (writers before) event ≡ true → is_enabled grid now event ≡ true → FirstOf turn now event
   by_way turn now event within ready (inl same) old enabled = subst (FirstOf turn now) same (own turn now _ ready (step_at_turn tile turn port.Local))
   by_way turn now event within ready (inr (inl met)) old enabled =
       let meet : Event = Meet (record { number = met.1 }) (opposite met.0) in
       let parts = enabled_parts grid now meet (ap (is_enabled grid now) met.3 ∙ enabled) in
       subst (FirstOf turn now) met.3
-      (meets turn met.1 met.0 now ready met.2 within (ap (gives_old before) met.3 ∙ old) (writing_of_offers (mode_at now met.1) (opposite met.0) parts.2.value parts.2.offers))
+      (meets turn met.1 met.0 now ready met.2 within (ap (gives_old (writers before)) met.3 ∙ old) (writing_of_offers (mode_at now met.1) (opposite met.0) parts.2.value parts.2.offers))
   by_way turn now event within ready (inr (inr (inl popped))) old enabled = subst (FirstOf turn now) popped.1 (own turn now _ ready (step_at_turn tile turn _))
   by_way turn now event within ready (inr (inr (inr same))) old enabled = subst (FirstOf turn now) same (own turn now _ ready (step_at_turn tile turn (Took Up (next_value grid now turn))))
 
-  in_first : (turn : ℕ) (now : State) (event : Event) → turn < size → reads_or_steps grid before now turn ≡ Some event → FirstOf turn now event
+  in_first : (turn : ℕ) (now : State) (event : Event) → turn < size → reads_or_steps grid (writers before) now turn ≡ Some event → FirstOf turn now event
   in_first turn now event within chose =
       let ways : List Event = ways_of_ready grid turn in
-      let found : first_way grid before now ways ≡ Some event = chosen_where (is_ready (mode_at before turn)) (first_way grid before now ways) event chose in
-      let passes = and_parts (gives_old before event) (is_enabled grid now event) (find_passes (λ e. gives_old before e && is_enabled grid now e) ways event found) in
-      by_way turn now event within (test_of (is_ready (mode_at before turn)) (first_way grid before now ways) event chose)
-      (way_of turn event (find_in (λ e. gives_old before e && is_enabled grid now e) ways event found)) passes.0 passes.1
+      let found : first_way grid (writers before) now ways ≡ Some event = chosen_where (is_ready (mode_at before turn)) (first_way grid (writers before) now ways) event chose in
+      let passes = and_parts (gives_old (writers before) event) (is_enabled grid now event) (find_passes (λ e. gives_old (writers before) e && is_enabled grid now e) ways event found) in
+      by_way turn now event within (test_of (is_ready (mode_at before turn)) (first_way grid (writers before) now ways) event chose)
+      (way_of turn event (find_in (λ e. gives_old (writers before) e && is_enabled grid now e) ways event found)) passes.0 passes.1
 
   -- what an event of the second half is for the tile: nothing, or a value that it gives
   abbrev InSecond : State → List Step → Type 0
@@ -214,7 +214,7 @@ module _ (grid : Grid) (is_grid : IsGrid grid) (before : State) (tile : ℕ) whe
   below turn now Left event old is enabled = absurd is
   below turn now Right event old is enabled = absurd is
 
-  in_second : (turn : ℕ) (now : State) (event : Event) → gives_out grid before now turn ≡ Some event → SecondOf now event
+  in_second : (turn : ℕ) (now : State) (event : Event) → gives_out grid (writers before) now turn ≡ Some event → SecondOf now event
   in_second turn now event chose =
       let ways : List Event = flat_map (ways_to_give grid turn) directions in
       let writing = test_of (is_writing (mode_at before turn)) (find (is_enabled grid now) ways) event chose in
@@ -230,14 +230,14 @@ module _ (grid : Grid) (is_grid : IsGrid grid) (before : State) (tile : ℕ) whe
   -- ---- a tile that was ready
 
   first_ready : is_ready (mode_at before tile) ≡ true → (count start : ℕ) (now : State) → start + count ≤ size →
-      (length (steps_of grid now (in_turn grid (reads_or_steps grid before) now (range_with_len start count)) tile) ≤ 1)
-      × (tile < start → length (steps_of grid now (in_turn grid (reads_or_steps grid before) now (range_with_len start count)) tile) ≡ 0)
+      (length (steps_of grid now (in_turn grid (reads_or_steps grid (writers before)) now (range_with_len start count)) tile) ≤ 1)
+      × (tile < start → length (steps_of grid now (in_turn grid (reads_or_steps grid (writers before)) now (range_with_len start count)) tile) ≡ 0)
   first_ready ready zero start now within = (omega arith, λ past. refl)
   first_ready ready (suc count) start now within =
       let tiles : List ℕ = range_with_len (start + 1) count in
-      elim (reads_or_steps grid before now start) as (λ choice. reads_or_steps grid before now start ≡ choice →
-      (length (steps_of grid now (and_then grid now choice (λ next. in_turn grid (reads_or_steps grid before) next tiles)) tile) ≤ 1)
-      × (tile < start → length (steps_of grid now (and_then grid now choice (λ next. in_turn grid (reads_or_steps grid before) next tiles)) tile) ≡ 0)) [
+      elim (reads_or_steps grid (writers before) now start) as (λ choice. reads_or_steps grid (writers before) now start ≡ choice →
+      (length (steps_of grid now (and_then grid now choice (λ next. in_turn grid (reads_or_steps grid (writers before)) next tiles)) tile) ≤ 1)
+      × (tile < start → length (steps_of grid now (and_then grid now choice (λ next. in_turn grid (reads_or_steps grid (writers before)) next tiles)) tile) ≡ 0)) [
         | None ↦ λ chose.
             let later = first_ready ready count (start + 1) now (omega arith) in
             (later.0, λ past. later.1 (omega arith))
@@ -245,7 +245,7 @@ module _ (grid : Grid) (is_grid : IsGrid grid) (before : State) (tile : ℕ) whe
             let next : State = after_event grid now event in
             let later = first_ready ready count (start + 1) next (omega arith) in
             let steps : List Step = steps_in grid now event tile in
-            let rest : List Step = steps_of grid next (in_turn grid (reads_or_steps grid before) next tiles) tile in
+            let rest : List Step = steps_of grid next (in_turn grid (reads_or_steps grid (writers before)) next tiles) tile in
             let both : length (steps ++ rest) ≡ length steps + length rest = length-append steps rest in
             elim (in_first start now event (omega arith) chose) [
               | inl none ↦
@@ -258,14 +258,14 @@ module _ (grid : Grid) (is_grid : IsGrid grid) (before : State) (tile : ℕ) whe
             ]
       ] refl
 
-  second_ready : is_ready (mode_at before tile) ≡ true → (tiles : List ℕ) (now : State) → steps_of grid now (in_turn grid (gives_out grid before) now tiles) tile ≡ []
+  second_ready : is_ready (mode_at before tile) ≡ true → (tiles : List ℕ) (now : State) → steps_of grid now (in_turn grid (gives_out grid (writers before)) now tiles) tile ≡ []
   second_ready ready [] now = refl
   second_ready ready (turn ∷ tiles) now =
-      elim (gives_out grid before now turn) as (λ choice. gives_out grid before now turn ≡ choice → steps_of grid now (and_then grid now choice (λ next. in_turn grid (gives_out grid before) next tiles)) tile ≡ []) [
+      elim (gives_out grid (writers before) now turn) as (λ choice. gives_out grid (writers before) now turn ≡ choice → steps_of grid now (and_then grid now choice (λ next. in_turn grid (gives_out grid (writers before)) next tiles)) tile ≡ []) [
         | None ↦ λ chose. second_ready ready tiles now
         | Some event ↦ λ chose.
             let next : State = after_event grid now event in
-            let rest : List Step = steps_of grid next (in_turn grid (gives_out grid before) next tiles) tile in
+            let rest : List Step = steps_of grid next (in_turn grid (gives_out grid (writers before)) next tiles) tile in
             elim (in_second turn now event chose) [
               | inl none ↦ ap (λ (l : List Step). l ++ rest) none ∙ second_ready ready tiles next
               | inr gives ↦ absurd (not_both (mode_at before tile) ready gives.1)
@@ -341,7 +341,7 @@ module _ (grid : Grid) (is_grid : IsGrid grid) (before : State) (tile : ℕ) whe
       ap (λ (l : List Step). steps_in grid now event tile ++ l) (steps_then one other (after_event grid now event))
       ∙ sym (append_assoc (steps_in grid now event tile) (steps_of grid (after_event grid now event) one tile) (steps_of grid (state_after grid (after_event grid now event) one) other tile))
 
-  first_gifts : is_writing (mode_at before tile) ≡ true → ChoosesGifts (reads_or_steps grid before)
+  first_gifts : is_writing (mode_at before tile) ≡ true → ChoosesGifts (reads_or_steps grid (writers before))
   first_gifts writing turn now event within chose =
       elim (in_first turn now event within chose) [
         | inl none ↦ inl none
@@ -351,7 +351,7 @@ module _ (grid : Grid) (is_grid : IsGrid grid) (before : State) (tile : ℕ) whe
         ]
       ]
 
-  second_gifts : ChoosesGifts (gives_out grid before)
+  second_gifts : ChoosesGifts (gives_out grid (writers before))
   second_gifts turn now event within chose =
       elim (in_second turn now event chose) [
         | inl none ↦ inl none
@@ -374,9 +374,9 @@ module _ (grid : Grid) (is_grid : IsGrid grid) (before : State) (tile : ℕ) whe
             let none : length other ≡ 0 = ap (λ (l : List Step). length l) (second_ready ready (all_tiles grid) middle) in
             omega (arith, few)
         | inr writing ↦
-            let order : IsOrder grid before first middle = record { is_grid = is_grid; fits = fits; leads = in_turn_leads grid (reads_or_steps grid before) (readers_choose grid before) (all_tiles grid) before } in
-            let at_first = gifts_once (reads_or_steps grid before) (readers_choose grid before) (first_gifts writing) count 0 before within fits in
-            let then = gifts_once (gives_out grid before) (writers_choose grid before) second_gifts count 0 middle within (orders_keep_fitting grid before first middle order) in
+            let order : IsOrder grid before first middle = record { is_grid = is_grid; fits = fits; leads = in_turn_leads grid (reads_or_steps grid (writers before)) (readers_choose grid before) (all_tiles grid) before } in
+            let at_first = gifts_once (reads_or_steps grid (writers before)) (readers_choose grid before) (first_gifts writing) count 0 before within fits in
+            let then = gifts_once (gives_out grid (writers before)) (writers_choose grid before) second_gifts count 0 middle within (orders_keep_fitting grid before first middle order) in
             elim then [
               | inl neither ↦ elim at_first [
                 | inl none ↦ omega (arith, neither.0, none.0)

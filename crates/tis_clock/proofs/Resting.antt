@@ -16,7 +16,7 @@ use Rattle.tis_grid.specs.Orders.{IsAtRest}
 use Rattle.tis_grid.proofs.Enabled.{Enables, enabled_parts, Wants, Offers}
 use Rattle.tis_grid.proofs.Listed.{IsIn, in_left, in_right, in_map, in_flat_map, in_range, in_filter}
 use Rattle.tis_grid.proofs.Places.{next_back, some_columns, compute_within}
-use Rattle.tis_clock.specs.Cycle.{is_ready, is_writing, directions, from_neighbour, ways_to_take, ways_of_ready, gives_old, first_way, reads_or_steps, ways_to_give, gives_out, state_after, and_then, in_turn, all_tiles, first_half, second_half, cycle_events}
+use Rattle.tis_clock.specs.Cycle.{writers, is_ready, is_writing, directions, from_neighbour, ways_to_take, ways_of_ready, gives_old, first_way, reads_or_steps, ways_to_give, gives_out, state_after, and_then, in_turn, all_tiles, first_half, second_half, cycle_events}
 use Rattle.tis_clock.specs.Laws.{RestHasNoCycle}
 use Rattle.tis_clock.proofs.Legal.{ChoosesEnabled, readers_choose, writers_choose}
 
@@ -75,8 +75,8 @@ module _ (grid : Grid) where
 
   rests : (state : State) → IsAtRest grid state → cycle_events grid state ≡ []
   rests state rest =
-      ap (λ (events : List Event). events ++ second_half grid state (state_after grid state events)) (idle (reads_or_steps grid state) (readers_choose grid state) state rest (all_tiles grid))
-      ∙ idle (gives_out grid state) (writers_choose grid state) state rest (all_tiles grid)
+      ap (λ (events : List Event). events ++ second_half grid state (state_after grid state events)) (idle (reads_or_steps grid (writers state)) (readers_choose grid state) state rest (all_tiles grid))
+      ∙ idle (gives_out grid (writers state)) (writers_choose grid state) state rest (all_tiles grid)
 
   -- ---- a cycle without events
 
@@ -102,17 +102,17 @@ module _ (grid : Grid) where
     tile_in tile compute = in_range 0 (length grid.puzzle.tiles.kinds) tile (omega arith) (omega (arith, is_grid.puzzle.tiles.filled, compute_within grid.puzzle.tiles tile is_grid.puzzle.tiles compute))
 
     -- a ready tile can do none of what it would do
-    no_way : (tile : ℕ) → IsCompute grid.puzzle.tiles tile → is_ready (node_at state tile).mode ≡ true → (event : Event) → IsIn event (ways_of_ready grid tile) → gives_old state event ≡ true → is_enabled grid state event ≡ true → ⊥
+    no_way : (tile : ℕ) → IsCompute grid.puzzle.tiles tile → is_ready (node_at state tile).mode ≡ true → (event : Event) → IsIn event (ways_of_ready grid tile) → gives_old (writers state) event ≡ true → is_enabled grid state event ≡ true → ⊥
     no_way tile compute ready event is old enabled =
-        let chose = nothing_chosen (reads_or_steps grid state) state (all_tiles grid) no_readers tile (tile_in tile compute) in
-        let way : first_way grid state state (ways_of_ready grid tile) ≡ None = sym (ap (λ (b : Bool). cond b (first_way grid state state (ways_of_ready grid tile)) None) ready) ∙ chose in
-        none_passes (λ e. gives_old state e && is_enabled grid state e) (ways_of_ready grid tile) event way is (and_from (gives_old state event) (is_enabled grid state event) old enabled)
+        let chose = nothing_chosen (reads_or_steps grid (writers state)) state (all_tiles grid) no_readers tile (tile_in tile compute) in
+        let way : first_way grid (writers state) state (ways_of_ready grid tile) ≡ None = sym (ap (λ (b : Bool). cond b (first_way grid (writers state) state (ways_of_ready grid tile)) None) ready) ∙ chose in
+        none_passes (λ e. gives_old (writers state) e && is_enabled grid state e) (ways_of_ready grid tile) event way is (and_from (gives_old (writers state) event) (is_enabled grid state event) old enabled)
 
     -- nor can one that writes
     no_gift : (tile : ℕ) (dir : Dir) → IsCompute grid.puzzle.tiles tile → is_writing (node_at state tile).mode ≡ true → (event : Event) → IsIn event (ways_to_give grid tile dir) → is_enabled grid state event ≡ true → ⊥
     no_gift tile dir compute writing event is enabled =
         let ways : List Event = flat_map (ways_to_give grid tile) directions in
-        let chose = nothing_chosen (gives_out grid state) state (all_tiles grid) no_writers tile (tile_in tile compute) in
+        let chose = nothing_chosen (gives_out grid (writers state)) state (all_tiles grid) no_writers tile (tile_in tile compute) in
         let way : find (is_enabled grid state) ways ≡ None = sym (ap (λ (b : Bool). cond b (find (is_enabled grid state) ways) None) writing) ∙ chose in
         none_passes (is_enabled grid state) ways event way (in_flat_map (ways_to_give grid tile) dir event directions (in_directions dir) is) enabled
 

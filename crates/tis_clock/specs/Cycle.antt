@@ -1,5 +1,5 @@
 -- The clock: which events happen in one cycle. It is one order among all that can be, and this project's own choice.
-use Rattle.std.specs.Prelude.{ℕ, zero, suc, Bool, false, true, ◌&&◌, List, [], ◌∷◌, ◌++◌, length, filter, map, flat_map, Option, Some, None, ◌==◌, if◌then◌else◌}
+use Rattle.std.specs.Prelude.{ℕ, zero, suc, Bool, false, true, ◌&&◌, not, List, [], ◌∷◌, ◌++◌, length, filter, map, flat_map, Option, Some, None, ◌==◌, if◌then◌else◌}
 use Rattle.std.specs.List.{find, range_with_len}
 use Rattle.tis_base.specs.Tiles.{opposite}
 use Rattle.tis_base.specs.declared.tiles.Dir.{Dir}
@@ -10,14 +10,17 @@ use Rattle.tis_grid.specs.declared.event.Event.TheVariants.{Local, Meet, In, Out
 use Rattle.tis_grid.specs.State.{Grid, State, node_at}
 use Rattle.tis_grid.specs.Events.{next_tile, bottom_of, is_enabled, after_event}
 
--- whether a node is ready, or writes
-abbrev pub is_ready : Mode → Bool
-is_ready Ready = true
-is_ready (Writing value toward) = false
-
+-- whether a node writes, or is ready
 abbrev pub is_writing : Mode → Bool
 is_writing Ready = false
 is_writing (Writing value toward) = true
+
+abbrev pub is_ready : Mode → Bool
+is_ready mode = not (is_writing mode)
+
+-- which tiles are writing in a state
+abbrev pub writers : State → ℕ → Bool
+writers state tile = is_writing (node_at state tile).mode
 
 -- the four directions, in the order in which they are tried
 abbrev pub directions : List Dir
@@ -46,22 +49,21 @@ abbrev pub ways_of_ready : Grid → ℕ → List Event
 ways_of_ready grid tile = Local (record { number = tile }) ∷ flat_map (ways_to_take grid tile) directions
 
 -- whether the tile that gives in this event was writing when the cycle began; other events have none
-abbrev pub gives_old : State → Event → Bool
-gives_old before (Meet giver dir) = is_writing (node_at before giver.number).mode
-gives_old before (Local tile) = true
-gives_old before (In position) = true
-gives_old before (Out position) = true
-gives_old before (Push tile dir) = true
-gives_old before (Pop tile dir) = true
+abbrev pub gives_old : (ℕ → Bool) → Event → Bool
+gives_old was_writing (Meet giver dir) = was_writing giver.number
+gives_old was_writing (Local tile) = true
+gives_old was_writing (In position) = true
+gives_old was_writing (Out position) = true
+gives_old was_writing (Push tile dir) = true
+gives_old was_writing (Pop tile dir) = true
 
--- the first of these that can happen now, in a cycle that began in this state: a value that was first written in this cycle isn't taken in it
-abbrev pub first_way : Grid → State → State → List Event → Option Event
-first_way grid before now ways = find (λ event. gives_old before event && is_enabled grid now event) ways
+-- the first of these that can happen now: a value that was first written in this cycle isn't taken in it
+abbrev pub first_way : Grid → (ℕ → Bool) → State → List Event → Option Event
+first_way grid was_writing now ways = find (λ event. gives_old was_writing event && is_enabled grid now event) ways
 
 -- what a tile does that was ready when the cycle began
-abbrev pub reads_or_steps : Grid → State → State → ℕ → Option Event
-reads_or_steps grid before now tile =
-    if is_ready (node_at before tile).mode then first_way grid before now (ways_of_ready grid tile) else None
+abbrev pub reads_or_steps : Grid → (ℕ → Bool) → State → ℕ → Option Event
+reads_or_steps grid was_writing now tile = if not (was_writing tile) then first_way grid was_writing now (ways_of_ready grid tile) else None
 
 -- ---- a tile that writes
 
@@ -77,9 +79,8 @@ abbrev pub ways_to_give : Grid → ℕ → Dir → List Event
 ways_to_give grid tile dir = Push (record { number = tile }) dir ∷ to_below grid tile dir
 
 -- what a tile gives that was writing when the cycle began: the first of these that can happen now, and nothing where its value was taken in this cycle
-abbrev pub gives_out : Grid → State → State → ℕ → Option Event
-gives_out grid before now tile =
-    if is_writing (node_at before tile).mode then find (is_enabled grid now) (flat_map (ways_to_give grid tile) directions) else None
+abbrev pub gives_out : Grid → (ℕ → Bool) → State → ℕ → Option Event
+gives_out grid was_writing now tile = if was_writing tile then find (is_enabled grid now) (flat_map (ways_to_give grid tile) directions) else None
 
 -- ---- a cycle
 
@@ -103,11 +104,11 @@ all_tiles grid = range_with_len 0 (length grid.puzzle.tiles.kinds)
 
 -- what the tiles do in reading order that were ready when the cycle began
 abbrev pub first_half : Grid → State → List Event
-first_half grid state = in_turn grid (reads_or_steps grid state) state (all_tiles grid)
+first_half grid state = in_turn grid (reads_or_steps grid (writers state)) state (all_tiles grid)
 
 -- and then those that were writing when it began and whose values weren't taken
 abbrev pub second_half : Grid → State → State → List Event
-second_half grid before now = in_turn grid (gives_out grid before) now (all_tiles grid)
+second_half grid before now = in_turn grid (gives_out grid (writers before)) now (all_tiles grid)
 
 -- the events of one cycle from a state
 abbrev pub cycle_events : Grid → State → List Event

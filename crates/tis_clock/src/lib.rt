@@ -1,6 +1,25 @@
-//! The clock.
+//! Clock cycles: one order of a grid's events among all that can be.
+//!
+//! # What it is for
+//!
+//! `specs/Cycle.antt` says which events happen in a cycle from a state, and in which order: first, tile by tile, what
+//! the tiles do that were ready when it began, and then what those give away that were writing when it began and
+//! whose values weren't taken. A [`Trace`] holds the events of one cycle.
+//!
+//! # What the layers above use
+//!
+//! The laws, as contracts of functions without a body: the events of a cycle are a legal order
+//! ([`cycles_are_legal`]); there is none exactly at rest ([`rest_has_no_cycle`]); each tile does one thing in a cycle
+//! at most, so that a value crosses one node in it at most ([`tiles_act_once`]).
+//!
+//! # What it doesn't do
+//!
+//! It runs no grid yet: what stands is the definition of the clock and what is known of it. The clock is this
+//! project's own, and says nothing of the cycle counts of the game.
 #![tactic(auto)]
 
 mod laws;
+mod trace;
 
 pub use laws::{cycles_are_legal, rest_has_no_cycle, tiles_act_once};
+pub use trace::Trace;

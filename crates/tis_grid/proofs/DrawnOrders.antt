@@ -14,7 +14,7 @@ use Rattle.tis_grid.specs.Laws.{IsMaximalWithin, DrawnOrdersAreLegal, DrawnOrder
 use Rattle.tis_grid.proofs.Listed.{IsIn, passes_filter, rest_lists_none}
 
 -- an element of a part of a list, or else another element of the list, stands in the list
-element_in : {X : Type 0} (whole part : List X) (index : ℕ) (other : X) → ((x : X) → IsIn x part → IsIn x whole) → IsIn other whole → IsIn (get_or part index other) whole
+pub element_in : {X : Type 0} (whole part : List X) (index : ℕ) (other : X) → ((x : X) → IsIn x part → IsIn x whole) → IsIn other whole → IsIn (get_or part index other) whole
 element_in whole [] index other sub is = is
 element_in whole (first ∷ part) zero other sub is = sub first (inl refl)
 element_in whole (first ∷ part) (suc index) other sub is = element_in whole part index other (λ x later. sub x (inr later)) is

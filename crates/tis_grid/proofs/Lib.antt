@@ -18,3 +18,5 @@ pub mod Outputs
 pub mod Inputs
 pub mod Starting
 pub mod OrderRuns
+pub mod Choosing
+pub mod Drawing

@@ -1,5 +1,5 @@
 -- Orders that are drawn from a seed.
-use Rattle.std.specs.Prelude.{ℕ, zero, suc, ◌*◌, ◌/◌, ◌^◌, List, [], ◌∷◌, length, get_or}
+use Rattle.std.specs.Prelude.{ℕ, zero, suc, ◌*◌, ◌/◌, ◌^◌, List, [], ◌∷◌, length, get_or, Option, Some, None}
 use Rattle.rand_pcg.specs.Lcg.{Lcg, started, increment_of}
 use Rattle.rand_pcg.specs.Pcg.{multiplier_64, pcg32}
 use Rattle.tis_grid.specs.declared.event.Event.{Event}
@@ -17,6 +17,11 @@ chosen [] word next = []
 chosen (event ∷ events) word next =
     let choice = get_or (event ∷ events) (choice_of word (length (event ∷ events))) event in
     choice ∷ next choice
+
+-- the event that a word chooses, where one can happen
+abbrev pub next_of : List Event → ℕ → Option Event
+next_of [] word = None
+next_of (event ∷ events) word = Some (get_or (event ∷ events) (choice_of word (length (event ∷ events))) event)
 
 -- at most so many events, one after the other, each chosen by the generator's next word among those that can happen
 abbrev pub drawn_by : Grid → State → Lcg → ℕ → List Event

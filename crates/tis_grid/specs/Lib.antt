@@ -10,3 +10,4 @@ pub mod HeldState
 pub mod Points
 pub mod Running
 pub mod HeldGrid
+pub mod HeldChoices

@@ -17,3 +17,10 @@ pub enum Event {
     /// A node pops a value from the stack in a direction.
     Pop(Tile, Dir),
 }
+
+impl Default for Event {
+    /// The event of the first input.
+    fn default() -> Self {
+        Event::In(0)
+    }
+}

@@ -29,6 +29,7 @@
 #![tactic(auto)]
 
 mod applying;
+mod choices;
 mod enabling;
 mod event;
 mod grid;

@@ -1,7 +1,9 @@
 //! The text of a save.
-ghost use Rattle.std.specs.Prelude.{◌≡◌, ◌+◌, ◌<◌, ◌++◌, ◌∷◌, decimal, if◌then◌else◌, OnOk};
+ghost use Rattle.std.specs.Prelude.{◌≡◌, ◌+◌, ◌<◌, ◌++◌, ◌∷◌, decimal, if◌then◌else◌, ℕ, Ok, OnOk, IfOk};
 ghost use Rattle.tis_base.specs.Answers.{Gives};
 ghost use Rattle.tis_base.specs.Tiles.{is_compute};
+ghost use Rattle.tis_asm.specs.Programs.{IsSound, program_at};
+ghost use Rattle.tis_save.specs.Reading.{save_of};
 ghost use Rattle.tis_save.specs.Writing.{block_text, save_text};
 
 use std::alloc::Global;
@@ -41,9 +43,11 @@ pub(crate) fn block_after(block: u8, kind: TileKind) -> u8
     }
 }
 
-/// The canonical save: a block for each compute tile with instructions, in reading order.
+/// The canonical save: a block for each compute tile with instructions, in reading order. Where each
+/// program is sound, it is read as these programs.
 pub fn write_save(alloc: Global, programs: &Programs) -> Result<Vec<u8>, NoMemory>
-    ensures { Gives (λ text. text.items) result (save_text programs.now) }
+    ensures text { Gives (λ text. text.items) result (save_text programs.now) }
+    ensures reads_back { ((tile : ℕ) → IsSound (program_at programs.now.programs tile)) → IfOk result (λ text. save_of text.items programs.now.tiles ≡ Ok programs.now) }
 {
     let mut out = Vec::new(alloc);
     let tiles = programs.tiles();

@@ -1,0 +1,11 @@
+pub mod Net
+pub mod NetText
+pub mod Column
+pub mod Reading
+pub mod NetView
+pub mod Compiled
+pub mod Emission
+pub mod Process
+pub mod Kahn
+pub mod Carries
+pub mod Behaves

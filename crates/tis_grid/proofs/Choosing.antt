@@ -1,0 +1,145 @@
+-- What can happen, list by list.
+use Rattle.std.proofs.Common.{◌≡◌, ℕ, zero, suc, ◌+◌, ◌<◌, ◌≤◌, true, false, cond, List, [], ◌∷◌, ◌++◌, length, map, get_or, take, Option, Some, None, refl, sym, ap, ◌∙◌, subst, arith, append_assoc}
+use Rattle.std.specs.Prelude.{Bool, flat_map, filter}
+use Rattle.std.specs.List.{range_with_len}
+use Rattle.std.specs.Prelude.{slice_get}
+use Rattle.arrayvec.specs.ArrayVec.{ArrayVec}
+use Rattle.std.proofs.Math.ListN.{get_or-append}
+use Rattle.std.proofs.lemmas.List.{take_more, take_all, flat_map_more, length-append, get_or-append-add, get_or-map, length-map}
+use Rattle.std.proofs.lemmas.List.FromFn.{fill_by_all}
+use Rattle.tis_grid.specs.HeldChoices.{port_list}
+use Rattle.tis_grid.specs.Drawn.{choice_of, next_of}
+use Rattle.std.proofs.lemmas.List.Concat.{get_or-flat_map}
+use Rattle.std.proofs.lemmas.List.Folds.{length-flat_map-take, flat_map-map}
+use Rattle.std.proofs.lemmas.Option.{slice_get-get_or, slice_get_within}
+use Rattle.std.proofs.lemmas.List.Elements.{filter-append}
+use Rattle.tis_base.specs.declared.tiles.Dir.{Dir}
+use Rattle.tis_base.specs.declared.tiles.Dir.TheVariants.{Left, Right, Up, Down}
+use Rattle.tis_grid.specs.declared.event.Event.{Event}
+use Rattle.tis_grid.specs.declared.event.Event.TheVariants.{Local, Meet, In, Out, Push, Pop}
+use Rattle.tis_grid.specs.State.{Grid, State}
+use Rattle.tis_grid.specs.Events.{is_enabled}
+use Rattle.tis_grid.specs.Choices.{events_towards, events_at, all_events, enabled_events, those_enabled}
+
+module _ (grid : Grid) (state : State) where
+  -- one list behind another
+  pub those-append : (xs ys : List Event) → those_enabled grid state (xs ++ ys) ≡ those_enabled grid state xs ++ those_enabled grid state ys
+  unfolding those_enabled
+  those-append xs ys = filter-append (is_enabled grid state) xs ys
+
+  -- one event that is enabled, and one that isn't
+  pub those-one : (event : Event) → is_enabled grid state event ≡ true → those_enabled grid state (event ∷ []) ≡ event ∷ []
+  unfolding those_enabled
+  those-one event is = ap (λ (b : Bool). cond b (event ∷ []) []) is
+
+  pub those-none : (event : Event) → is_enabled grid state event ≡ false → those_enabled grid state (event ∷ []) ≡ []
+  unfolding those_enabled
+  those-none event is = ap (λ (b : Bool). cond b (event ∷ []) []) is
+
+  pub those-empty : those_enabled grid state [] ≡ []
+  unfolding those_enabled
+  those-empty = refl
+
+  -- a first list, and three single events behind it
+  pub three : (before : List Event) (a b c : Event) → ((before ++ those_enabled grid state (a ∷ [])) ++ those_enabled grid state (b ∷ [])) ++ those_enabled grid state (c ∷ []) ≡ before ++ those_enabled grid state (a ∷ b ∷ c ∷ [])
+  three before a b c =
+      let ab = those-append (a ∷ []) (b ∷ []) in
+      let abc = those-append (a ∷ b ∷ []) (c ∷ []) in
+      ap (λ (xs : List Event). xs ++ those_enabled grid state (c ∷ [])) (append_assoc before (those_enabled grid state (a ∷ [])) (those_enabled grid state (b ∷ [])))
+      ∙ append_assoc before _ (those_enabled grid state (c ∷ []))
+      ∙ ap (λ (xs : List Event). before ++ (xs ++ those_enabled grid state (c ∷ []))) (sym ab)
+      ∙ ap (λ (xs : List Event). before ++ xs) (sym abc)
+
+  -- one list behind another, where the first is that of the events before
+  pub those_more : (before more : List Event) (first : List Event) → first ≡ those_enabled grid state before → first ++ those_enabled grid state more ≡ those_enabled grid state (before ++ more)
+  those_more before more first is = ap (λ (xs : List Event). xs ++ those_enabled grid state more) is ∙ sym (those-append before more)
+
+  -- the lists of the tiles, one after the other
+  those-flat_map : (f : ℕ → List Event) (numbers : List ℕ) → those_enabled grid state (flat_map f numbers) ≡ flat_map (λ number. those_enabled grid state (f number)) numbers
+  those-flat_map f [] = those-empty
+  those-flat_map f (number ∷ numbers) = those-append (f number) (flat_map f numbers) ∙ ap (λ (xs : List Event). those_enabled grid state (f number) ++ xs) (those-flat_map f numbers)
+
+  -- a list that has grown by those of more events
+  pub grown : (before more first new : List Event) → first ≡ those_enabled grid state before → new ≡ first ++ those_enabled grid state more → new ≡ those_enabled grid state (before ++ more)
+  grown before more first new is by = by ∙ those_more before more first is
+
+-- ---- the lists one after the other
+
+abbrev items_of : ArrayVec Event → List Event
+items_of events = events.items
+
+module _ (tiles : List (ArrayVec Event)) (ports : List Event) where
+  -- an event of a tile's list
+  pub found_in : (tile left index : ℕ) (e : ArrayVec Event) (d : Event) → tile < length tiles → left < length (get_or tiles tile e).items → length (flat_map items_of (take tile tiles)) + left ≡ index → slice_get (flat_map items_of tiles ++ ports) index ≡ Some (get_or (get_or tiles tile e).items left d)
+  found_in tile left index e d within below is =
+      let fits = length-flat_map-take items_of tiles tile e within in
+      let inside : index < length (flat_map items_of tiles) = omega arith in
+      let there : index < length (flat_map items_of tiles ++ ports) = omega (arith, length-append (flat_map items_of tiles) ports) in
+      slice_get-get_or (flat_map items_of tiles ++ ports) index d there
+      ∙ ap (λ (x : Event). Some x) (get_or-append (flat_map items_of tiles) ports d index inside ∙ ap (λ (i : ℕ). get_or (flat_map items_of tiles) i d) (sym is) ∙ get_or-flat_map items_of tiles tile left e d within below)
+
+  -- an event of the ports
+  pub found_behind : (left index : ℕ) (d : Event) → left < length ports → length (flat_map items_of tiles) + left ≡ index → slice_get (flat_map items_of tiles ++ ports) index ≡ Some (get_or ports left d)
+  found_behind left index d below is =
+      let there : index < length (flat_map items_of tiles ++ ports) = omega (arith, length-append (flat_map items_of tiles) ports) in
+      slice_get-get_or (flat_map items_of tiles ++ ports) index d there
+      ∙ ap (λ (x : Event). Some x) (ap (λ (i : ℕ). get_or (flat_map items_of tiles ++ ports) i d) (sym is) ∙ get_or-append-add (flat_map items_of tiles) ports left d)
+
+  -- all lists
+  pub all_of : (count : ℕ) → length tiles ≤ count → flat_map items_of (take count tiles) ≡ flat_map items_of tiles
+  all_of count past = ap (λ (list : List (ArrayVec Event)). flat_map items_of list) (take_all count tiles past)
+
+  -- one more list
+  pub one_more_list : (tile : ℕ) (e : ArrayVec Event) → tile < length tiles → length (flat_map items_of (take (tile + 1) tiles)) ≡ length (flat_map items_of (take tile tiles)) + length (get_or tiles tile e).items
+  one_more_list tile e within =
+      ap (λ (list : List (ArrayVec Event)). length (flat_map items_of list)) (take_more tiles tile e within)
+      ∙ ap (λ (list : List Event). length list) (sym (flat_map_more items_of [] (take tile tiles) (get_or tiles tile e)))
+      ∙ length-append (flat_map items_of (take tile tiles)) (get_or tiles tile e).items
+
+-- ---- all events that are enabled
+
+module _ (grid : Grid) (state : State) where
+  -- the tiles
+  tiles_listed : (tiles : List (ArrayVec Event)) (count : ℕ) → length tiles ≡ count → ((tile : ℕ) → tile < count → (get_or tiles tile (record { items = [] })).items ≡ those_enabled grid state (events_at tile)) →
+      flat_map items_of tiles ≡ those_enabled grid state (flat_map events_at (range_with_len 0 count))
+  tiles_listed tiles count len each =
+      let lists = fill_by_all (λ tile. those_enabled grid state (events_at tile)) (map items_of tiles) count [] (length-map tiles items_of ∙ len)
+      (λ tile below. get_or-map items_of tiles tile (record { items = [] }) [] (omega arith) ∙ each tile below) in
+      sym (flat_map-map (λ (xs : List Event). xs) items_of tiles)
+      ∙ ap (λ (xss : List (List Event)). flat_map (λ (xs : List Event). xs) xss) lists
+      ∙ flat_map-map (λ (xs : List Event). xs) (λ tile. those_enabled grid state (events_at tile)) (range_with_len 0 count)
+      ∙ sym (those-flat_map grid state events_at (range_with_len 0 count))
+
+  -- the ports
+  four_ports : (columns : ℕ) → columns ≡ 4 → port_list ≡ map (λ position. In position) (range_with_len 0 columns) ++ map (λ position. Out position) (range_with_len 0 columns)
+  four_ports columns is = ap (λ (n : ℕ). map (λ position. In position) (range_with_len 0 n) ++ map (λ position. Out position) (range_with_len 0 n)) (sym is)
+
+  -- those of all events
+  all_enabled : those_enabled grid state (all_events grid) ≡ enabled_events grid state
+  unfolding those_enabled
+  all_enabled = refl
+
+  pub all_listed : (tiles : List (ArrayVec Event)) (ports : List Event) → length grid.puzzle.tiles.kinds ≡ 12 → grid.puzzle.tiles.shape.columns ≡ 4 → length tiles ≡ 12 →
+      ((tile : ℕ) → tile < 12 → (get_or tiles tile (record { items = [] })).items ≡ those_enabled grid state (events_at tile)) → ports ≡ those_enabled grid state port_list →
+      flat_map items_of tiles ++ ports ≡ enabled_events grid state
+  all_listed tiles ports kinds columns len each ports_are =
+      let first = tiles_listed tiles (length grid.puzzle.tiles.kinds) (len ∙ sym kinds) (λ tile below. let inside : tile < 12 = omega arith in each tile inside) in
+      let second = ports_are ∙ ap (λ (xs : List Event). those_enabled grid state xs) (four_ports grid.puzzle.tiles.shape.columns columns) in
+      let ins = map (λ position. In position) (range_with_len 0 grid.puzzle.tiles.shape.columns) in
+      let outs = map (λ position. Out position) (range_with_len 0 grid.puzzle.tiles.shape.columns) in
+      let of_tiles = flat_map events_at (range_with_len 0 (length grid.puzzle.tiles.kinds)) in
+      ap (λ (xs : List Event). xs ++ ports) first
+      ∙ ap (λ (xs : List Event). those_enabled grid state of_tiles ++ xs) second
+      ∙ sym (those-append grid state of_tiles (ins ++ outs))
+      ∙ ap (λ (xs : List Event). those_enabled grid state xs) (sym (append_assoc of_tiles ins outs))
+      ∙ all_enabled
+
+-- an element of a list that isn't empty, as a word chooses it
+pub chosen_at : (events : List Event) (word : ℕ) (event : Event) → slice_get events (choice_of word (length events)) ≡ Some event → Some event ≡ next_of events word
+chosen_at [] word event is = absurd cc
+chosen_at (first ∷ events) word event is = sym is ∙ slice_get-get_or (first ∷ events) (choice_of word (length (first ∷ events))) first (slice_get_within (first ∷ events) (choice_of word (length (first ∷ events))) event is)
+
+-- none is chosen where none is there
+pub none_chosen : (events : List Event) (word : ℕ) → length events ≡ 0 → None ≡ next_of events word
+none_chosen [] word none = refl
+none_chosen (first ∷ events) word none = absurd (omega arith)

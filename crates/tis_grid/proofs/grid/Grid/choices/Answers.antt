@@ -1,0 +1,9 @@
+use Rattle.std.proofs.Common.{◌≡◌, ◌<◌, ℕ, arith}
+use Rattle.tis_grid.proofs.Starting.{twelve_tiles}
+use Rattle.tis_grid.proofs.Choosing.{all_listed}
+use Rattle.tis_grid.proofs.grid.Grid.choices.Goals as goal
+
+pub returns-clause-all : goal.returns-clause-all
+returns-clause-all c =
+    all_listed c.args.self.now c.args.state.now.state c.loop-number.tiles c.port_events.result.items (twelve_tiles c.args.self.now c.puzzle.ensures.grid) c.puzzle.ensures.grid.puzzle.tiles.allowed.0 c.loop-number.invariant.0
+    (λ tile below. let before : tile < c.loop-number.number = omega arith in c.loop-number.invariant.1 tile before) c.port_events.ensures
