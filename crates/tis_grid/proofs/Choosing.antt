@@ -1,25 +1,25 @@
 -- What can happen, list by list.
-use Rattle.std.proofs.Common.{◌≡◌, ℕ, zero, suc, ◌+◌, ◌<◌, ◌≤◌, true, false, cond, List, [], ◌∷◌, ◌++◌, length, map, get_or, take, Option, Some, None, refl, sym, ap, ◌∙◌, subst, arith, append_assoc}
-use Rattle.std.specs.Prelude.{Bool, flat_map, filter}
+use Rattle.std.proofs.Common.{◌≡◌, ℕ, ◌+◌, ◌<◌, ◌≤◌, true, false, cond, List, [], ◌∷◌, ◌++◌, length, map, get_or, take, Some, None, refl, sym, ap, ◌∙◌, arith, append_assoc}
+use Rattle.std.specs.Prelude.{Bool, flat_map}
 use Rattle.std.specs.List.{range_with_len}
 use Rattle.std.specs.Prelude.{slice_get}
 use Rattle.arrayvec.specs.ArrayVec.{ArrayVec}
 use Rattle.std.proofs.Math.ListN.{get_or-append}
 use Rattle.std.proofs.lemmas.List.{take_more, take_all, flat_map_more, length-append, get_or-append-add, get_or-map, length-map}
 use Rattle.std.proofs.lemmas.List.FromFn.{fill_by_all}
-use Rattle.tis_grid.specs.HeldChoices.{port_list}
+use Rattle.tis_grid.specs.HeldChoices.{port_list, listed, AreChoices}
+use Rattle.tis_grid.specs.declared.choices.Choices.{Choices}
+use Rattle.tis_grid.proofs.Starting.{twelve_tiles}
 use Rattle.tis_grid.specs.Drawn.{choice_of, next_of}
 use Rattle.std.proofs.lemmas.List.Concat.{get_or-flat_map}
 use Rattle.std.proofs.lemmas.List.Folds.{length-flat_map-take, flat_map-map}
 use Rattle.std.proofs.lemmas.Option.{slice_get-get_or, slice_get_within}
 use Rattle.std.proofs.lemmas.List.Elements.{filter-append}
-use Rattle.tis_base.specs.declared.tiles.Dir.{Dir}
-use Rattle.tis_base.specs.declared.tiles.Dir.TheVariants.{Left, Right, Up, Down}
 use Rattle.tis_grid.specs.declared.event.Event.{Event}
-use Rattle.tis_grid.specs.declared.event.Event.TheVariants.{Local, Meet, In, Out, Push, Pop}
-use Rattle.tis_grid.specs.State.{Grid, State}
+use Rattle.tis_grid.specs.declared.event.Event.TheVariants.{In, Out}
+use Rattle.tis_grid.specs.State.{Grid, IsGrid, State}
 use Rattle.tis_grid.specs.Events.{is_enabled}
-use Rattle.tis_grid.specs.Choices.{events_towards, events_at, all_events, enabled_events, those_enabled}
+use Rattle.tis_grid.specs.Choices.{events_at, all_events, enabled_events, those_enabled}
 
 module _ (grid : Grid) (state : State) where
   -- one list behind another
@@ -143,3 +143,11 @@ chosen_at (first ∷ events) word event is = sym is ∙ slice_get-get_or (first 
 pub none_chosen : (events : List Event) (word : ℕ) → length events ≡ 0 → None ≡ next_of events word
 none_chosen [] word none = refl
 none_chosen (first ∷ events) word none = absurd (omega arith)
+
+-- what is listed is what is enabled
+pub choices_list : (grid : Grid) (state : State) (choices : Choices) → IsGrid grid → AreChoices grid state choices → listed choices ≡ enabled_events grid state
+choices_list grid state choices is_grid are = all_listed grid state choices.tiles choices.ports.items (twelve_tiles grid is_grid) is_grid.puzzle.tiles.allowed.0 are.len are.tiles are.ports
+
+-- a word chooses the same of both
+pub drawn_from : (grid : Grid) (state : State) (choices : Choices) (word : ℕ) → IsGrid grid → AreChoices grid state choices → next_of (listed choices) word ≡ next_of (enabled_events grid state) word
+drawn_from grid state choices word is_grid are = ap (λ (events : List Event). next_of events word) (choices_list grid state choices is_grid are)

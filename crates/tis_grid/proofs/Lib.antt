@@ -20,3 +20,4 @@ pub mod Starting
 pub mod OrderRuns
 pub mod Choosing
 pub mod Drawing
+pub mod Frames

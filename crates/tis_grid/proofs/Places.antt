@@ -33,13 +33,13 @@ column_within width number = omega (arith, div-add-mod' number width)
 -- ---- neighbours by numbers
 
 -- the tile to the left
-next_left : (shape : Shape) (tile next : ℕ) → neighbour_of shape tile Left ≡ Some next → (0 < tile % shape.columns) × (tile - 1 ≡ next)
+pub next_left : (shape : Shape) (tile next : ℕ) → neighbour_of shape tile Left ≡ Some next → (0 < tile % shape.columns) × (tile - 1 ≡ next)
 next_left shape tile next is =
     let parts = cond_some (nat_lt 0 (tile % shape.columns)) (tile - 1) next is in
     (ltb-true _ _ parts.0, parts.1)
 
 -- the tile to the right
-next_right : (shape : Shape) (tile next : ℕ) → neighbour_of shape tile Right ≡ Some next → (tile % shape.columns + 1 < shape.columns) × (tile + 1 ≡ next)
+pub next_right : (shape : Shape) (tile next : ℕ) → neighbour_of shape tile Right ≡ Some next → (tile % shape.columns + 1 < shape.columns) × (tile + 1 ≡ next)
 next_right shape tile next is =
     let parts = cond_some (nat_lt (tile % shape.columns + 1) shape.columns) (tile + 1) next is in
     (ltb-true _ _ parts.0, parts.1)

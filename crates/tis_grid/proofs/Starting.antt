@@ -1,5 +1,5 @@
 -- The start of a grid of twelve tiles in four columns.
-use Rattle.std.proofs.Common.{◌≡◌, ℕ, ℤ, List, [], ◌∷◌, length, map, replicate, Option, refl, sym, ap, ◌∙◌, ◌*◌, arith}
+use Rattle.std.proofs.Common.{◌≡◌, ℕ, ℤ, List, [], ◌∷◌, length, map, replicate, Option, sym, ap, ◌∙◌, ◌*◌, arith}
 use Rattle.std.specs.List.{range_with_len}
 use Rattle.tis_asm.specs.Node.{Node, fresh}
 use Rattle.tis_grid.specs.Puzzle.{Puzzle}

@@ -1,7 +1,10 @@
 -- What can happen next, as the program holds it.
-use Rattle.std.specs.Prelude.{◌≡◌, ℕ, ◌<◌, List, [], ◌∷◌, ◌++◌, length, flat_map, get_or}
+use Rattle.std.specs.Prelude.{◌≡◌, ℕ, ◌<◌, List, [], ◌∷◌, ◌++◌, length, flat_map, get_or, Some}
 use Rattle.tis_grid.specs.declared.event.Event.{Event}
-use Rattle.tis_grid.specs.declared.event.Event.TheVariants.{In, Out}
+use Rattle.tis_base.specs.declared.tiles.Dir.{Dir}
+use Rattle.arrayvec.specs.ArrayVec.{ArrayVec}
+use Rattle.tis_grid.specs.declared.event.Event.TheVariants.{Local, Meet, In, Out, Push, Pop}
+use Rattle.tis_grid.specs.Events.{reached, bottom_of, next_tile}
 use Rattle.tis_grid.specs.declared.choices.Choices.{Choices}
 use Rattle.tis_grid.specs.State.{Grid, State}
 use Rattle.tis_grid.specs.Choices.{events_at, those_enabled}
@@ -14,8 +17,37 @@ listed choices = flat_map (λ events. events.items) choices.tiles ++ choices.por
 abbrev pub port_list : List Event
 port_list = In 0 ∷ In 1 ∷ In 2 ∷ In 3 ∷ Out 0 ∷ Out 1 ∷ Out 2 ∷ Out 3 ∷ []
 
--- each list has the events of its tile, and the last one those of the ports, that are enabled
+-- the list of a tile has its events that are enabled
+abbrev pub IsRight : Grid → State → List (ArrayVec Event) → ℕ → Type 0
+IsRight grid state tiles tile = (get_or tiles tile (record { items = [] })).items ≡ those_enabled grid state (events_at tile)
+
+-- so has the list of each tile, and the last one has those of the ports
 pub record AreChoices (grid : Grid) (state : State) (choices : Choices) : Type 0 where
   pub len : length choices.tiles ≡ 12
-  pub tiles : (tile : ℕ) → tile < 12 → (get_or choices.tiles tile (record { items = [] })).items ≡ those_enabled grid state (events_at tile)
+  pub tiles : (tile : ℕ) → tile < 12 → IsRight grid state choices.tiles tile
   pub ports : choices.ports.items ≡ those_enabled grid state port_list
+
+-- the tiles that an event changes: the second one is the same as the first, where there is no other
+abbrev pub touched : Grid → Event → ℕ × ℕ
+touched grid (Local tile) = (tile.number, tile.number)
+touched grid (Meet tile dir) = (tile.number, reached grid tile.number dir)
+touched grid (In position) = (position, position)
+touched grid (Out position) = (bottom_of grid position, bottom_of grid position)
+touched grid (Push tile dir) = (tile.number, reached grid tile.number dir)
+touched grid (Pop tile dir) = (tile.number, reached grid tile.number dir)
+
+-- the tile or the position of an event is on the grid
+abbrev pub IsPlaced : Grid → Event → Type 0
+IsPlaced grid (Local tile) = tile.number < length grid.puzzle.tiles.kinds
+IsPlaced grid (Meet tile dir) = tile.number < length grid.puzzle.tiles.kinds
+IsPlaced grid (In position) = position < grid.puzzle.tiles.shape.columns
+IsPlaced grid (Out position) = position < grid.puzzle.tiles.shape.columns
+IsPlaced grid (Push tile dir) = tile.number < length grid.puzzle.tiles.kinds
+IsPlaced grid (Pop tile dir) = tile.number < length grid.puzzle.tiles.kinds
+
+-- the lists of a tile and of those next to it were made anew, and no list that was right is wrong now
+pub record AreRenewed (grid : Grid) (state : State) (tile : ℕ) (old new : Choices) : Type 0 where
+  pub len : length new.tiles ≡ 12
+  pub here : IsRight grid state new.tiles tile
+  pub around : (dir : Dir) (next : ℕ) → next_tile grid tile dir ≡ Some next → IsRight grid state new.tiles next
+  pub others : (other : ℕ) → IsRight grid state old.tiles other → IsRight grid state new.tiles other

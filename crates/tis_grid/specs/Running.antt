@@ -1,5 +1,5 @@
 -- What the runs of a grid answer, and the state that each leaves.
-use Rattle.std.specs.Prelude.{◌≡◌, ℕ, ◌<◌, List, length, take, Option, Some, Result, Ok, Err, slice_get}
+use Rattle.std.specs.Prelude.{◌≡◌, ℕ, List, length, take, Some, Result, Ok, Err, slice_get}
 use Rattle.tis_base.specs.declared.memory.NoMemory.{NoMemory}
 use Rattle.tis_base.specs.Prefix.{IsPrefixOf}
 use Rattle.tis_grid.specs.declared.event.Event.{Event}

@@ -72,7 +72,7 @@ impl Grid {
     }
 
     // The tile that is next in a direction, where one is there.
-    fn reached(&self, tile: Tile, dir: Dir) -> Tile
+    pub(crate) fn reached(&self, tile: Tile, dir: Dir) -> Tile
         requires { tile.number < length self.now.puzzle.tiles.kinds }
         ensures next { result.number ≡ reached self.now tile.number dir }
         ensures other { IsSome (next_tile self.now tile.number dir) → tile.number ≢ result.number }

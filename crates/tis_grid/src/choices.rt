@@ -2,7 +2,7 @@
 ghost use Rattle.std.specs.Prelude.{◌≡◌, ◌<◌, ◌≤◌, ◌+◌, ◌++◌, [], ◌∷◌, ℕ, length, slice_get, Some, IsSome, IsTrue, ◌↔◌, ◌^◌};
 ghost use Rattle.arrayvec.specs.ArrayVec.{array_vec_len};
 ghost use Rattle.tis_grid.specs.Choices.{events_towards, events_at, those_enabled, enabled_events};
-ghost use Rattle.tis_grid.specs.HeldChoices.{listed, port_list};
+ghost use Rattle.tis_grid.specs.HeldChoices.{listed, port_list, AreChoices, AreRenewed, IsRight, touched};
 ghost use Rattle.rand_pcg.specs.Pcg.{pcg32};
 ghost use Rattle.tis_grid.specs.Drawn.{choice_of, next_of};
 ghost use Rattle.tis_grid.specs.Orders.{Fits, IsAtRest};
@@ -16,10 +16,10 @@ use rand_pcg::Lcg64Xsh32;
 use tis_base::{Dir, Tile};
 
 // How many events a tile has, of which some can happen.
-const WAYS: usize = 13;
+pub(crate) const WAYS: usize = 13;
 
 // How many events the inputs and the outputs have.
-const PORTS: usize = 8;
+pub(crate) const PORTS: usize = 8;
 
 /// The events that can happen, by tile and then at the ports.
 #[derive(Debug, Drop)]
@@ -77,6 +77,19 @@ impl Choices {
         }
         self.ports[left]
     }
+
+    // The event that the generator's next word chooses, where one can happen. Where none can, no word is drawn.
+    pub(crate) fn draw(&self, generator: &mut Lcg64Xsh32) -> Option<Event>
+        requires { length self.now.tiles ≡ 12 }
+        ensures event { result ≡ next_of (listed self.now) (pcg32 generator.old).0 }
+        ensures word { IsSome result → generator.new ≡ (pcg32 generator.old).1 }
+    {
+        let count = self.count();
+        if count == 0 {
+            return None;
+        }
+        Some(self.at(choice(generator.next_word(), count)))
+    }
 }
 
 impl Grid {
@@ -110,7 +123,7 @@ impl Grid {
     }
 
     // What a tile can do.
-    fn tile_events(&self, state: &State, tile: Tile) -> ArrayVec<Event, WAYS>
+    pub(crate) fn tile_events(&self, state: &State, tile: Tile) -> ArrayVec<Event, WAYS>
         requires { Fits self.now state.now.state }
         ensures { result.items ≡ those_enabled self.now state.now.state (events_at tile.number) }
     {
@@ -124,7 +137,7 @@ impl Grid {
     }
 
     // What can happen at the ports.
-    fn port_events(&self, state: &State) -> ArrayVec<Event, PORTS>
+    pub(crate) fn port_events(&self, state: &State) -> ArrayVec<Event, PORTS>
         requires { Fits self.now state.now.state }
         ensures { result.items ≡ those_enabled self.now state.now.state port_list }
     {
@@ -143,7 +156,7 @@ impl Grid {
     // What can happen next.
     pub(crate) fn choices(&self, state: &State) -> Choices
         requires { Fits self.now state.now.state }
-        ensures len { length result.tiles ≡ 12 }
+        ensures right { AreChoices self.now state.now.state result }
         ensures all { listed result ≡ enabled_events self.now state.now.state }
     {
         // The call tells the proof that this is a grid.
@@ -171,20 +184,6 @@ impl Grid {
         // The call tells the proof that this is a grid.
         self.puzzle();
         self.choices(state).count() == 0
-    }
-
-    // The event that the generator's next word chooses, where one can happen. Where none can, no word is drawn.
-    pub(crate) fn draw(&self, state: &State, generator: &mut Lcg64Xsh32) -> Option<Event>
-        requires { Fits self.now state.now.state }
-        ensures event { result ≡ next_of (enabled_events self.now state.now.state) (pcg32 generator.old).0 }
-        ensures word { IsSome result → generator.new ≡ (pcg32 generator.old).1 }
-    {
-        let choices = self.choices(state);
-        let count = choices.count();
-        if count == 0 {
-            return None;
-        }
-        Some(choices.at(choice(generator.next_word(), count)))
     }
 }
 

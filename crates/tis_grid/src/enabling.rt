@@ -64,6 +64,7 @@ impl Grid {
         requires { tile.number < length self.now.puzzle.tiles.kinds }
         ensures next { option_map (λ t. t.number) result ≡ event.next_tile self.now tile.number dir }
         ensures other { IfSome result (λ next. tile.number ≢ next.number) }
+        ensures there { IfSome result (λ next. next.number < length self.now.puzzle.tiles.kinds) }
     {
         self.puzzle.tiles.neighbour(tile, dir)
     }

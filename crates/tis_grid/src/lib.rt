@@ -36,6 +36,7 @@ mod grid;
 mod laws;
 mod point;
 mod puzzle;
+mod renewing;
 mod running;
 mod state;
 

@@ -91,12 +91,13 @@ impl Grid {
         // The call tells the proof that this is a grid.
         self.puzzle();
         let mut generator = Lcg64Xsh32::new(seed, 1);
+        let mut choices = self.choices(state);
         for done in 0..limit {
-            let Some(event) = self.draw(state, &mut generator) else {
+            let Some(event) = choices.draw(&mut generator) else {
                 return Ok(Ended::Rest { done });
             };
             self.make_room(state, event)?;
-            self.apply(state, event);
+            self.step(state, &mut choices, event);
         }
         if self.at_rest(state) {
             Ok(Ended::Rest { done: limit })

@@ -35,3 +35,6 @@ pub use error::{EventsError, GridTextError};
 pub use events::read_events;
 pub use grid::read_grid;
 pub use laws::grids_are_puzzles;
+
+#[cfg(test)]
+mod tests;

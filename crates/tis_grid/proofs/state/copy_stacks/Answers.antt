@@ -1,4 +1,4 @@
-use Rattle.std.proofs.Common.{get_or, ◌<◌, length, sym, ◌∙◌, arith, [], List, ℤ}
+use Rattle.std.proofs.Common.{◌<◌, length, ◌∙◌, arith, []}
 use Rattle.std.proofs.lemmas.List.{same_lists, get_or_default}
 use Rattle.tis_grid.proofs.state.copy_stacks.Goals as goal
 

@@ -1,5 +1,5 @@
-use Rattle.std.proofs.Common.{map, option_map, arith, length, ◌<◌, ◌≤◌, ◌≡◌, ◌∙◌, sym, refl, ℕ, None, get_or}
-use Rattle.std.proofs.lemmas.List.{length-map, length-set}
+use Rattle.std.proofs.Common.{map, option_map, arith, ◌<◌, refl}
+use Rattle.std.proofs.lemmas.List.{length-set}
 use Rattle.tis_grid.proofs.Outputs.{room_more, cut_more, still_more, cut_all_of}
 use Rattle.tis_grid.proofs.state.cut_all.Goals as goal
 

@@ -1,4 +1,4 @@
-use Rattle.std.proofs.Common.{◌≡◌, ℕ, ◌<◌, length, get_or, map, option_map, None}
+use Rattle.std.proofs.Common.{◌≡◌, ℕ, ◌<◌, length, get_or, option_map, None}
 use Rattle.tis_grid.proofs.state.lengths_of.Given as goal
 
 abbrev pub invariant-loop-position : goal.invariant-loop-position

@@ -1,4 +1,4 @@
-use Rattle.std.proofs.Common.{map, option_map, arith, length, ◌<◌, ◌≤◌, ◌≡◌, ◌^◌, ◌-◌, ℕ}
+use Rattle.std.proofs.Common.{map, option_map, arith, ◌<◌}
 use Rattle.std.proofs.lemmas.List.{length-map}
 use Rattle.tis_grid.proofs.Outputs.{same_more, room_more, has_more, least_from_each}
 use Rattle.tis_grid.proofs.state.reserve_each.Goals as goal

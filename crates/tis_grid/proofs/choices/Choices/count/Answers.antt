@@ -1,4 +1,4 @@
-use Rattle.std.proofs.Common.{◌≡◌, ◌≤◌, ◌+◌, List, length, take, arith, ap, sym, ◌∙◌}
+use Rattle.std.proofs.Common.{List, length, arith, ap}
 use Rattle.std.specs.Prelude.{flat_map}
 use Rattle.std.proofs.lemmas.List.{length-append}
 use Rattle.tis_grid.specs.declared.event.Event.{Event}

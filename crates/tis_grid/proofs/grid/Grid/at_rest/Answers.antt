@@ -1,4 +1,4 @@
-use Rattle.std.proofs.Common.{◌≡◌, ap, ◌∙◌, List, length, eq-eqb, eqb-true}
+use Rattle.std.proofs.Common.{ap, ◌∙◌, List, length, eq-eqb, eqb-true}
 use Rattle.tis_grid.specs.declared.event.Event.{Event}
 use Rattle.tis_grid.proofs.Drawing.{rest_counts}
 use Rattle.tis_grid.proofs.grid.Grid.at_rest.Goals as goal

@@ -1,4 +1,4 @@
-use Rattle.std.proofs.Common.{◌≡◌, ◌<◌, ℕ, arith}
+use Rattle.std.proofs.Common.{◌<◌, arith}
 use Rattle.tis_grid.proofs.Starting.{twelve_tiles}
 use Rattle.tis_grid.proofs.Choosing.{all_listed}
 use Rattle.tis_grid.proofs.grid.Grid.choices.Goals as goal

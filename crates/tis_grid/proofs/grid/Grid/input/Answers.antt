@@ -1,9 +1,7 @@
-use Rattle.std.proofs.Common.{◌≡◌, ◌<◌, ℕ, ℤ, List, length, get_or, Option, Some, None, sym, ap, ◌∙◌, arith, refl, rules}
-use Rattle.std.specs.Prelude.{slice_get}
+use Rattle.std.proofs.Common.{◌≡◌, ◌<◌, get_or, None, sym, ap, ◌∙◌, arith, rules}
 use Rattle.tis_grid.specs.State.{Grid}
-use Rattle.tis_grid.specs.Puzzle.{puzzle_of}
-use Rattle.tis_grid.specs.HeldGrid.{place_of, input_values}
-use Rattle.tis_grid.proofs.Inputs.{found_values, found_none, place_at, found_within}
+use Rattle.tis_grid.specs.HeldGrid.{input_values}
+use Rattle.tis_grid.proofs.Inputs.{found_values, found_none, found_within}
 use Rattle.tis_grid.proofs.grid.Grid.input.Goals as goal
 
 pub returns-in-Some : goal.returns-in-Some

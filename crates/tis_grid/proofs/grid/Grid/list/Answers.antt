@@ -1,4 +1,4 @@
-use Rattle.std.proofs.Common.{List, [], ◌++◌, sym, ap, ◌∙◌, append-nil}
+use Rattle.std.proofs.Common.{List, ◌++◌, sym, ap, ◌∙◌, append-nil}
 use Rattle.tis_grid.specs.declared.event.Event.{Event}
 use Rattle.tis_grid.proofs.Choosing.{those-one, those-none}
 use Rattle.tis_grid.proofs.grid.Grid.list.Goals as goal

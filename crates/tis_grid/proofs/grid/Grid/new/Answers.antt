@@ -1,10 +1,9 @@
-use Rattle.std.proofs.Common.{◌≡◌, ◌<◌, ℕ, arith, ap, subst, List}
+use Rattle.std.proofs.Common.{◌<◌, arith, subst, List}
 use Rattle.std.specs.Prelude.{All}
 use Rattle.tis_base.specs.Saturation.{IsValue}
 use Rattle.tis_base.specs.Tiles.{Tiles}
 use Rattle.tis_asm.specs.Programs.{ArePrograms}
 use Rattle.tis_grid.specs.declared.puzzle.InputAt.{InputAt}
-use Rattle.tis_grid.specs.HeldGrid.{place_of}
 use Rattle.tis_grid.proofs.Inputs.{hold_values}
 use Rattle.tis_grid.proofs.grid.Grid.new.Goals as goal
 

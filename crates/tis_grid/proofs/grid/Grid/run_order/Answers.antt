@@ -1,8 +1,6 @@
-use Rattle.std.proofs.Common.{◌≡◌, ◌≤◌, ◌<◌, ◌-◌, ◌+◌, ℕ, length, Some, Option, List, ℤ, true, sym, ap, ◌∙◌, subst, arith}
-use Rattle.std.specs.Prelude.{Bool, is_some}
-use Rattle.tis_grid.specs.Puzzle.{has_output}
+use Rattle.std.proofs.Common.{◌≡◌, length, Some, true, sym, ap, ◌∙◌, subst, arith}
+use Rattle.std.specs.Prelude.{is_some}
 use Rattle.tis_grid.specs.State.{State, output_taken}
-use Rattle.tis_grid.specs.HeldState.{spare_at, spares_after}
 use Rattle.tis_grid.specs.Orders.{Fits}
 use Rattle.tis_grid.proofs.OrderRuns.{after_next, room_less}
 use Rattle.tis_grid.proofs.grid.Grid.run_order.Goals as goal

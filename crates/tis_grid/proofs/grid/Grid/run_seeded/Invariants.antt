@@ -1,5 +1,6 @@
 use Rattle.tis_grid.specs.Orders.{Fits}
 use Rattle.tis_grid.specs.Drawn.{generator_of}
+use Rattle.tis_grid.specs.HeldChoices.{AreChoices}
 use Rattle.tis_grid.proofs.Drawing.{Drew}
 use Rattle.tis_grid.proofs.grid.Grid.run_seeded.Given as goal
 
@@ -7,5 +8,6 @@ abbrev pub invariant-loop-done : goal.invariant-loop-done
 invariant-loop-done l =
     record {
       fits : Fits l.self l.state.state;
+      right : AreChoices l.self l.state.state l.choices;
       drew : Drew l.self l.fn.state.state (generator_of l.fn.seed) l.fn.limit l.done l.state.state l.generator;
     }

@@ -1,5 +1,5 @@
-use Rattle.std.proofs.Common.{◌≡◌, sym, subst}
-use Rattle.tis_grid.specs.State.{Grid, IsGrid, State, start}
+use Rattle.std.proofs.Common.{sym, subst}
+use Rattle.tis_grid.specs.State.{IsGrid, State}
 use Rattle.tis_grid.specs.Orders.{Fits}
 use Rattle.tis_grid.proofs.Fitting.{start_fitting}
 use Rattle.tis_grid.proofs.Starting.{start_is, twelve_tiles}

@@ -1,5 +1,5 @@
 use Rattle.std.proofs.Common.{◌≤◌, map, option_map}
-use Rattle.tis_grid.specs.HeldState.{HasRoomEach, least_spare}
+use Rattle.tis_grid.specs.HeldState.{least_spare}
 use Rattle.tis_grid.proofs.Outputs.{ok_then, room_each}
 use Rattle.tis_grid.proofs.state.State.reserve.Goals as goal
 

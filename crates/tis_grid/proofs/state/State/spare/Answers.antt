@@ -1,4 +1,4 @@
-use Rattle.std.proofs.Common.{◌≤◌, subst, arith}
+use Rattle.std.proofs.Common.{subst, arith}
 use Rattle.tis_grid.specs.HeldState.{HeldState, HasRoomEach}
 use Rattle.tis_grid.proofs.Outputs.{room_each}
 use Rattle.tis_grid.proofs.state.State.spare.Goals as goal

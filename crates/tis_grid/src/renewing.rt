@@ -1,0 +1,102 @@
+//! What can happen next, kept from one event to the next.
+//!
+//! After an event only the lists of the tiles that it changed, of those next to them and of the ports are made
+//! anew. So an event takes a time that doesn't grow with what lies elsewhere on the grid.
+ghost use Rattle.std.specs.Prelude.{◌≡◌, ◌<◌, ℕ, length, Some};
+ghost use Rattle.tis_grid.specs.Events.{IsEnabled, after_event, next_tile};
+ghost use Rattle.tis_grid.specs.HeldChoices.{AreChoices, AreRenewed, IsRight, IsPlaced, touched};
+ghost use Rattle.tis_grid.specs.HeldState.{HasRoom};
+ghost use Rattle.tis_grid.specs.Orders.{Fits};
+
+use crate::choices::Choices;
+use crate::event::Event;
+use crate::grid::Grid;
+use crate::state::State;
+use tis_base::{Dir, Tile};
+
+impl Grid {
+    // The tiles that an event changes.
+    fn touched(&self, event: Event) -> (Tile, Tile)
+        requires { IsPlaced self.now event }
+        ensures first { result.0.number ≡ (touched self.now event).0 }
+        ensures second { result.1.number ≡ (touched self.now event).1 }
+    {
+        match event {
+            Event::Local(tile) => (tile, tile),
+            Event::Meet(tile, dir) | Event::Push(tile, dir) | Event::Pop(tile, dir) => {
+                (tile, self.reached(tile, dir))
+            }
+            Event::In(position) => {
+                let tile = Tile { number: position };
+                (tile, tile)
+            }
+            Event::Out(position) => {
+                let tile = self.bottom(position);
+                (tile, tile)
+            }
+        }
+    }
+
+    // Makes the list of a tile anew.
+    fn renew(&self, state: &State, choices: &mut Choices, tile: Tile)
+        requires fits { Fits self.now state.now.state }
+        requires len { length choices.old.tiles ≡ 12 }
+        requires within { tile.number < 12 }
+        ensures len { length choices.new.tiles ≡ 12 }
+        ensures here { IsRight self.now state.now.state choices.new.tiles tile.number }
+        ensures others { (other : ℕ) → IsRight self.now state.now.state choices.old.tiles other → IsRight self.now state.now.state choices.new.tiles other }
+    {
+        choices.tiles[tile.number as usize] = self.tile_events(state, tile);
+    }
+
+    // Makes the list of the tile that is next in a direction anew.
+    fn renew_next(&self, state: &State, choices: &mut Choices, tile: Tile, dir: Dir)
+        requires fits { Fits self.now state.now.state }
+        requires len { length choices.old.tiles ≡ 12 }
+        requires within { tile.number < length self.now.puzzle.tiles.kinds }
+        ensures len { length choices.new.tiles ≡ 12 }
+        ensures here { (next : ℕ) → next_tile self.now tile.number dir ≡ Some next → IsRight self.now state.now.state choices.new.tiles next }
+        ensures others { (other : ℕ) → IsRight self.now state.now.state choices.old.tiles other → IsRight self.now state.now.state choices.new.tiles other }
+    {
+        // The call tells the proof how many tiles there are.
+        self.puzzle();
+        if let Some(next) = self.next(tile, dir) {
+            self.renew(state, choices, next);
+        }
+    }
+
+    // Makes the lists of a tile and of those next to it anew.
+    fn renew_around(&self, state: &State, choices: &mut Choices, tile: Tile)
+        requires fits { Fits self.now state.now.state }
+        requires len { length choices.old.tiles ≡ 12 }
+        requires within { tile.number < length self.now.puzzle.tiles.kinds }
+        ensures { AreRenewed self.now state.now.state tile.number choices.old choices.new }
+    {
+        // The call tells the proof how many tiles there are.
+        self.puzzle();
+        self.renew(state, choices, tile);
+        self.renew_next(state, choices, tile, Dir::Left);
+        self.renew_next(state, choices, tile, Dir::Right);
+        self.renew_next(state, choices, tile, Dir::Up);
+        self.renew_next(state, choices, tile, Dir::Down);
+    }
+
+    // Applies an event that is enabled, and keeps what can happen next.
+    pub(crate) fn step(&self, state: &mut State, choices: &mut Choices, event: Event)
+        requires fits { Fits self.now state.old.state }
+        requires enabled { IsEnabled self.now state.old.state event }
+        requires room { HasRoom state.old.spares event }
+        requires right { AreChoices self.now state.old.state choices.old }
+        ensures state { state.new.state ≡ after_event self.now state.old.state event }
+        ensures fits { Fits self.now state.new.state }
+        ensures right { AreChoices self.now state.new.state choices.new }
+    {
+        // The call tells the proof that this is a grid.
+        self.puzzle();
+        let (first, second) = self.touched(event);
+        self.apply(state, event);
+        self.renew_around(state, choices, first);
+        self.renew_around(state, choices, second);
+        choices.ports = self.port_events(state);
+    }
+}
