@@ -1,10 +1,10 @@
 -- The least line of a `while` without a read, found by a walk, is that of the first one by line.
 use Rattle.std.proofs.Common.{◌≡◌, ◌≤◌, ℕ, zero, suc, ◌+◌, Bool, true, false, cond, List, [], ◌∷◌, ◌++◌, length, drop, refl, sym, ap, ◌∙◌, arith}
-use Rattle.std.specs.Prelude.{Option, Some, None, slice_get, option_map, min}
+use Rattle.std.specs.Prelude.{Option, Some, None, slice_get, option_map}
 use Rattle.std.proofs.lemmas.List.{drop_all}
 use Rattle.net_tree.specs.declared.tree.Var.{Var}
 use Rattle.net_tree.specs.Tree.{Name, Statement, Get, GetAdd, GetSub, Put, PutNumber, Move, Set, Add, Sub, Neg, Double, Copy, Swap, If, While, Count, Block, Empty, Then, statements_of}
-use Rattle.net_rules.specs.Rules.{BrokenRule, LoopWithoutRead, Placed, placed_in, placed_inside, by_line, loops_without_read, loop_fault}
+use Rattle.net_rules.specs.Rules.{LoopWithoutRead, Placed, placed_in, placed_inside, by_line, loops_without_read, loop_fault}
 use Rattle.net_rules.specs.Loops.{lesser, own_loop, block_loop, inner_loop, IsFirstLoop}
 use Rattle.net_rules.proofs.LineOrder.{first_line, least_line, first_is_least}
 

@@ -1,14 +1,13 @@
 -- A walk through the statements of a block.
-use Rattle.std.proofs.Common.{◌≡◌, ◌<◌, ◌≤◌, ◌⊎◌, inl, inr, ℕ, zero, suc, ◌+◌, Bool, true, false, List, [], ◌∷◌, length, get_or, drop, refl, sym, ap, subst, ◌∙◌, arith, drop-cons}
-use Rattle.std.specs.Prelude.{Option, Some, None, slice_get, option_map, ◌||◌}
-use Rattle.net_tree.specs.declared.tree.Statement as held
+use Rattle.std.proofs.Common.{◌≡◌, ◌<◌, ◌≤◌, ◌⊎◌, inl, inr, ℕ, zero, suc, ◌+◌, Bool, true, false, List, [], ◌∷◌, drop, refl, sym, ap, subst, ◌∙◌, arith}
+use Rattle.std.specs.Prelude.{Some, slice_get, option_map, ◌||◌}
 use Rattle.net_tree.specs.declared.tree.Statement.TheVariants as held_as
 use Rattle.net_tree.specs.declared.tree.Statement.TheFolds as folds
 use Rattle.net_tree.specs.declared.tree.Statement.TheOpen as level
 use Rattle.net_tree.specs.declared.tree.Block as held_block
 use Rattle.net_tree.specs.declared.tree.Var.{Var}
 use Rattle.net_tree.specs.declared.tree.Test.{Test}
-use Rattle.net_tree.specs.Tree.{Name, Statement, If, While, Count, Block, Empty, Then, statements_of}
+use Rattle.net_tree.specs.Tree.{Name, Statement, If, Block, Empty, Then, statements_of}
 use Rattle.net_tree.specs.View.{Numbered, statement_level, block_level, numbered_level, statement_view, block_view}
 use Rattle.net_rules.specs.Sizes.{block_size, statement_size}
 use Rattle.net_rules.specs.Uses.{reads_itself, reads_either_way, surely_reads}

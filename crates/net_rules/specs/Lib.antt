@@ -3,6 +3,7 @@ pub mod Sizes
 pub mod Numbers
 pub mod Rules
 pub mod Loops
+pub mod Broken
 pub mod Process
 pub mod Kahn
 pub mod Sure

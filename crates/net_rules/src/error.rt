@@ -40,7 +40,10 @@ impl fmt::Display for RuleError {
             RuleError::Unknown { line } => write!(f, "line {line} has an unknown name"),
             RuleError::Repeated { line } => write!(f, "line {line} repeats a name"),
             RuleError::SamePlace { line } => write!(f, "line {line} has a taken position"),
-            RuleError::ReadTwice { line } => write!(f, "line {line} reads a name of another reader"),
+            RuleError::ReadTwice { line } => write!(
+                f,
+                "line {line} reads a name of another reader"
+            ),
             RuleError::WrittenTwice { line } => {
                 write!(f, "line {line} writes a name of another writer")
             }
