@@ -36,13 +36,16 @@
 #![tactic(auto)]
 
 mod command;
+mod describing;
 mod laws;
 mod run;
+mod runs;
 mod status;
 
+pub use describing::describe;
 pub use laws::answers_are_one;
 pub use run::tool;
-pub use status::{Refusal, Status, describe};
+pub use status::{Refusal, Status};
 
 #[cfg(test)]
 mod tests;
