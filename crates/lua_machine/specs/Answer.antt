@@ -1,10 +1,7 @@
 -- What a call of the machine gives: the chunk's assignments, then the function, then its value made plain.
 use Rattle.std.specs.Prelude.{◌≡◌, ℕ, zero, suc, ◌+◌, ◌≤◌, ℤ, Bool, List, [], ◌∷◌, Some, Result, Ok, Err}
-use Rattle.lua_tree.specs.declared.tree.Item.{Item}
-use Rattle.lua_tree.specs.declared.tree.Item.TheVariants as item
-use Rattle.lua_tree.specs.declared.tree.Expr.{Expr}
-use Rattle.lua_tree.specs.declared.tree.LuaBlock.{LuaBlock}
-use Rattle.lua_tree.specs.declared.tree.LuaStatement.TheVariants as s
+use Rattle.lua_machine.specs.Tree as t
+use Rattle.lua_machine.specs.Tree.{Node, BlockNode, ItemNode, items_of}
 use Rattle.lua_machine.specs.Value.{LuaValue, Nil, Truth, Number, Text, Table, Fault}
 use Rattle.lua_machine.specs.Tables.{Entries, plain_list, row}
 use Rattle.lua_machine.specs.State.{State, fresh, entered}
@@ -52,14 +49,14 @@ plain_of (suc levels) tables (Table at) =
 -- ---- the call
 
 -- the chunk's assignments in order, each as a statement, with no call open
-pub data Assigns : List Item → State → List Item → Gone → ℕ → Type 0 where
-  no_more : {chunk : List Item} {state : State} → Assigns chunk state [] (goes state) 0
-  function : {chunk more : List Item} {state : State} {called : List ℕ} {params : List (List ℕ)} {body : LuaBlock} {gone : Gone} {cost : ℕ} →
-      Assigns chunk state more gone cost → Assigns chunk state (item.Function called params body ∷ more) gone cost
-  stopped : {chunk more : List Item} {state now : State} {called : List ℕ} {value : Expr} {why : Fault} {cost : ℕ} →
-      Executes chunk 0 state (s.Assign called value) (stops why now) cost → Assigns chunk state (item.Assign called value ∷ more) (stops why now) cost
-  assignment : {chunk more : List Item} {state now : State} {called : List ℕ} {value : Expr} {gone : Gone} {cost rest : ℕ} →
-      Executes chunk 0 state (s.Assign called value) (goes now) cost → Assigns chunk now more gone rest → Assigns chunk state (item.Assign called value ∷ more) gone (cost + rest)
+pub data Assigns : List ItemNode → State → List ItemNode → Gone → ℕ → Type 0 where
+  no_more : {chunk : List ItemNode} {state : State} → Assigns chunk state [] (goes state) 0
+  function : {chunk more : List ItemNode} {state : State} {called : List ℕ} {params : List (List ℕ)} {body : BlockNode} {gone : Gone} {cost : ℕ} →
+      Assigns chunk state more gone cost → Assigns chunk state (t.Function called params body ∷ more) gone cost
+  stopped : {chunk more : List ItemNode} {state now : State} {called : List ℕ} {of : Node} {why : Fault} {cost : ℕ} →
+      Executes chunk 0 state (t.Assign called of) (stops why now) cost → Assigns chunk state (t.Set called of ∷ more) (stops why now) cost
+  assignment : {chunk more : List ItemNode} {state now : State} {called : List ℕ} {of : Node} {gone : Gone} {cost rest : ℕ} →
+      Executes chunk 0 state (t.Assign called of) (goes now) cost → Assigns chunk now more gone rest → Assigns chunk state (t.Set called of ∷ more) gone (cost + rest)
 
 -- a value made plain, or the fault
 abbrev pub made_plain : List Entries → Result LuaValue Fault → Result (Paid PlainValue) Fault
@@ -80,9 +77,9 @@ plain_value (Ok paid) = Ok paid.value
 plain_value (Err why) = Err why
 
 -- what the function of a name gives, called without arguments as the first open call, with the cost of all
-pub data Yields : List Item → List ℕ → ℕ → Result PlainValue Fault → ℕ → Type 0 where
-  no_start : {chunk : List Item} {called : List ℕ} {seed cost : ℕ} {now : State} {why : Fault} → Assigns chunk (fresh seed) chunk (stops why now) cost → Yields chunk called seed (Err why) cost
-  yields : {chunk : List Item} {called : List ℕ} {seed cost more : ℕ} {now : State} {function : Function} {gone : Gone} → Assigns chunk (fresh seed) chunk (goes now) cost →
+pub data Yields : List ItemNode → List ℕ → ℕ → Result PlainValue Fault → ℕ → Type 0 where
+  no_start : {chunk : List ItemNode} {called : List ℕ} {seed cost : ℕ} {now : State} {why : Fault} → Assigns chunk (fresh seed) chunk (stops why now) cost → Yields chunk called seed (Err why) cost
+  yields : {chunk : List ItemNode} {called : List ℕ} {seed cost more : ℕ} {now : State} {function : Function} {gone : Gone} → Assigns chunk (fresh seed) chunk (goes now) cost →
       function_of chunk called ≡ Some function → Runs chunk 1 (entered function.params [] now) function.body gone more →
       Yields chunk called seed (plain_value (plain_result gone)) (cost + more + plain_cost (plain_result gone))
 
@@ -91,14 +88,14 @@ abbrev pub most_units : ℕ
 most_units = 500000
 
 -- the call gives this, and no more units are paid than may be
-abbrev pub Answers : List Item → List ℕ → ℕ → Result PlainValue Fault → ℕ → Type 0
+abbrev pub Answers : List ItemNode → List ℕ → ℕ → Result PlainValue Fault → ℕ → Type 0
 Answers chunk called seed answer cost = Yields chunk called seed answer cost × (cost ≤ most_units)
 
 -- one more unit would be paid than may be, before any answer
-abbrev pub RunsOut : List Item → List ℕ → ℕ → Type 0
+abbrev pub RunsOut : List ItemNode → List ℕ → ℕ → Type 0
 RunsOut chunk called seed = (answer : Result PlainValue Fault) (cost : ℕ) → Answers chunk called seed answer cost → ⊥
 
 -- there is one answer at most
 abbrev pub YieldsOnce : Type 0
-YieldsOnce = (chunk : List Item) (called : List ℕ) (seed : ℕ) (one other : Result PlainValue Fault) (cost more : ℕ) →
+YieldsOnce = (chunk : List ItemNode) (called : List ℕ) (seed : ℕ) (one other : Result PlainValue Fault) (cost more : ℕ) →
     Yields chunk called seed one cost → Yields chunk called seed other more → (one ≡ other) × (cost ≡ more)

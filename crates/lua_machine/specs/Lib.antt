@@ -1,3 +1,4 @@
+pub mod Tree
 pub mod Value
 pub mod Tables
 pub mod State

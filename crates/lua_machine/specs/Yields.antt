@@ -6,15 +6,8 @@ use Rattle.std.specs.Ordering.{int_eq}
 use Rattle.lua_tree.specs.declared.tree.UnaryOp.{UnaryOp}
 use Rattle.lua_tree.specs.declared.tree.BinaryOp.{BinaryOp}
 use Rattle.lua_tree.specs.declared.tree.BinaryOp.TheVariants as op_of
-use Rattle.lua_tree.specs.declared.tree.Item.{Item}
-use Rattle.lua_tree.specs.declared.tree.Expr.{Expr}
-use Rattle.lua_tree.specs.declared.tree.Expr.TheVariants as e
-use Rattle.lua_tree.specs.declared.tree.Entry.{Entry}
-use Rattle.lua_tree.specs.declared.tree.Entry.TheVariants as entry
-use Rattle.lua_tree.specs.declared.tree.LuaStatement.{LuaStatement}
-use Rattle.lua_tree.specs.declared.tree.LuaStatement.TheVariants as s
-use Rattle.lua_tree.specs.declared.tree.LuaBlock.{LuaBlock, roll-LuaBlock}
-use Rattle.lua_tree.specs.declared.tree.Arm.{Arm, roll-Arm}
+use Rattle.lua_machine.specs.Tree as t
+use Rattle.lua_machine.specs.Tree.{Node, Nodes, none, ◌and◌, EntryNodes, StatementNode, BlockNode, ItemNode, ◌andthen◌, ArmNodes}
 use Rattle.lua_machine.specs.Value.{LuaValue, Nil, Truth, Number, Text, Table, Fault, TypeFault, UnknownName, OutOfRange, TooDeepCalls, is_true, is_key}
 use Rattle.lua_machine.specs.Tables.{at_key, row, stored}
 use Rattle.lua_machine.specs.State.{State, Done, gives, fails, value_of, assigned, declared, left_block, entered, left_call}
@@ -62,8 +55,8 @@ floor_result line (a ∷ b ∷ []) state = answered (floor_of_quotient line a b)
 floor_result line _ state = fails (TypeFault line) state
 
 -- the arguments are one quotient
-abbrev pub IsQuotient : List Expr → Type 0
-IsQuotient args = (left right : Expr) × (line : ℕ) × (args ≡ e.Binary op_of.Over left right line ∷ [])
+abbrev pub IsQuotient : Nodes → Type 0
+IsQuotient args = (left right : Node) × (line : ℕ) × (args ≡ (t.Binary op_of.Over left right line and none))
 
 -- ---- ways out of a block
 
@@ -138,190 +131,186 @@ comes b = nat_le (nat_abs b.first) greatest && (if int_lt (pos 0) b.by then int_
 abbrev pub next_turn : Bounds → Bounds
 next_turn b = record b { first = b.first +ℤ b.by }
 
-abbrev pub bounds_parts : Expr → Expr → Option Expr → List Expr
-bounds_parts first last None = first ∷ last ∷ []
-bounds_parts first last (Some by) = first ∷ last ∷ by ∷ []
-
--- a block of the tree
-abbrev pub block_of : List LuaStatement → LuaBlock
-block_of statements = roll-LuaBlock (record { statements = statements })
+abbrev pub bounds_parts : Node → Node → Option Node → Nodes
+bounds_parts first last None = first and last and none
+bounds_parts first last (Some by) = first and last and by and none
 
 mutual
   -- ---- expressions, with the chunk, the calls that are open, the state before, and the units paid
-  pub data Evaluates : List Item → ℕ → State → Expr → Done LuaValue → ℕ → Type 0 where
-    nil : {chunk : List Item} {calls : ℕ} {state : State} → Evaluates chunk calls state e.Nil (gives Nil state) 1
-    yes : {chunk : List Item} {calls : ℕ} {state : State} → Evaluates chunk calls state e.True (gives (Truth true) state) 1
-    no : {chunk : List Item} {calls : ℕ} {state : State} → Evaluates chunk calls state e.False (gives (Truth false) state) 1
-    number : {chunk : List Item} {calls : ℕ} {state : State} {value : ℤ} → Evaluates chunk calls state (e.Number value) (gives (Number value) state) 1
-    string : {chunk : List Item} {calls line : ℕ} {state : State} {bytes : List ℕ} → Evaluates chunk calls state (e.Str bytes line) (answered (text line bytes) state) 1
-    name : {chunk : List Item} {calls : ℕ} {state : State} {called : List ℕ} → Evaluates chunk calls state (e.Name called) (gives (value_of called state) state) 1
-    index : {chunk : List Item} {calls line cost : ℕ} {state : State} {table key : Expr} {parts : Done (List LuaValue)} →
-        AllEvaluate chunk calls state (table ∷ key ∷ []) parts cost → Evaluates chunk calls state (e.Index table key line) (after parts (indexed line)) (cost + 1)
-    member : {chunk : List Item} {calls line cost : ℕ} {state : State} {table : Expr} {called : List ℕ} {parts : Done (List LuaValue)} →
-        AllEvaluate chunk calls state (table ∷ []) parts cost → Evaluates chunk calls state (e.Member table called line) (after parts (λ values now. indexed line (with_member called values) now)) (cost + 1)
-    unary : {chunk : List Item} {calls line cost : ℕ} {state : State} {op : UnaryOp} {of : Expr} {parts : Done (List LuaValue)} →
-        AllEvaluate chunk calls state (of ∷ []) parts cost → Evaluates chunk calls state (e.Unary op of line) (after parts (unary_result op line)) (cost + 1)
-    binary : {chunk : List Item} {calls line cost : ℕ} {state : State} {op : BinaryOp} {left right : Expr} {parts : Done (List LuaValue)} → is_logical op ≡ false →
-        AllEvaluate chunk calls state (left ∷ right ∷ []) parts cost → Evaluates chunk calls state (e.Binary op left right line) (after parts (binary_result op line)) (cost + 1)
+  pub data Evaluates : List ItemNode → ℕ → State → Node → Done LuaValue → ℕ → Type 0 where
+    nil : {chunk : List ItemNode} {calls : ℕ} {state : State} → Evaluates chunk calls state t.Nil (gives Nil state) 1
+    yes : {chunk : List ItemNode} {calls : ℕ} {state : State} → Evaluates chunk calls state t.True (gives (Truth true) state) 1
+    no : {chunk : List ItemNode} {calls : ℕ} {state : State} → Evaluates chunk calls state t.False (gives (Truth false) state) 1
+    number : {chunk : List ItemNode} {calls : ℕ} {state : State} {value : ℤ} → Evaluates chunk calls state (t.Number value) (gives (Number value) state) 1
+    string : {chunk : List ItemNode} {calls line : ℕ} {state : State} {bytes : List ℕ} → Evaluates chunk calls state (t.Str bytes line) (answered (text line bytes) state) 1
+    name : {chunk : List ItemNode} {calls : ℕ} {state : State} {called : List ℕ} → Evaluates chunk calls state (t.Name called) (gives (value_of called state) state) 1
+    index : {chunk : List ItemNode} {calls line cost : ℕ} {state : State} {table key : Node} {parts : Done (List LuaValue)} →
+        AllEvaluate chunk calls state (table and key and none) parts cost → Evaluates chunk calls state (t.Index table key line) (after parts (indexed line)) (cost + 1)
+    member : {chunk : List ItemNode} {calls line cost : ℕ} {state : State} {table : Node} {called : List ℕ} {parts : Done (List LuaValue)} →
+        AllEvaluate chunk calls state (table and none) parts cost → Evaluates chunk calls state (t.Member table called line) (after parts (λ values now. indexed line (with_member called values) now)) (cost + 1)
+    unary : {chunk : List ItemNode} {calls line cost : ℕ} {state : State} {op : UnaryOp} {of : Node} {parts : Done (List LuaValue)} →
+        AllEvaluate chunk calls state (of and none) parts cost → Evaluates chunk calls state (t.Unary op of line) (after parts (unary_result op line)) (cost + 1)
+    binary : {chunk : List ItemNode} {calls line cost : ℕ} {state : State} {op : BinaryOp} {left right : Node} {parts : Done (List LuaValue)} → is_logical op ≡ false →
+        AllEvaluate chunk calls state (left and right and none) parts cost → Evaluates chunk calls state (t.Binary op left right line) (after parts (binary_result op line)) (cost + 1)
     -- `and` and `or`: the left side decides, or the right side is the value
-    left_fails : {chunk : List Item} {calls line cost : ℕ} {state now : State} {op : BinaryOp} {left : Expr} {fault : Fault} (right : Expr) → is_logical op ≡ true →
-        Evaluates chunk calls state left (fails fault now) cost → Evaluates chunk calls state (e.Binary op left right line) (fails fault now) (cost + 1)
-    left_decides : {chunk : List Item} {calls line cost : ℕ} {state now : State} {op : BinaryOp} {left : Expr} {value : LuaValue} (right : Expr) → is_logical op ≡ true → decides op value ≡ true →
-        Evaluates chunk calls state left (gives value now) cost → Evaluates chunk calls state (e.Binary op left right line) (gives value now) (cost + 1)
-    right_decides : {chunk : List Item} {calls line cost more : ℕ} {state now : State} {op : BinaryOp} {left right : Expr} {value : LuaValue} {done : Done LuaValue} → is_logical op ≡ true → decides op value ≡ false →
-        Evaluates chunk calls state left (gives value now) cost → Evaluates chunk calls now right done more → Evaluates chunk calls state (e.Binary op left right line) done (cost + more + 1)
+    left_fails : {chunk : List ItemNode} {calls line cost : ℕ} {state now : State} {op : BinaryOp} {left : Node} {fault : Fault} {right : Node} → is_logical op ≡ true →
+        Evaluates chunk calls state left (fails fault now) cost → Evaluates chunk calls state (t.Binary op left right line) (fails fault now) (cost + 1)
+    left_decides : {chunk : List ItemNode} {calls line cost : ℕ} {state now : State} {op : BinaryOp} {left : Node} {value : LuaValue} {right : Node} → is_logical op ≡ true → decides op value ≡ true →
+        Evaluates chunk calls state left (gives value now) cost → Evaluates chunk calls state (t.Binary op left right line) (gives value now) (cost + 1)
+    right_decides : {chunk : List ItemNode} {calls line cost more : ℕ} {state now : State} {op : BinaryOp} {left right : Node} {value : LuaValue} {done : Done LuaValue} → is_logical op ≡ true → decides op value ≡ false →
+        Evaluates chunk calls state left (gives value now) cost → Evaluates chunk calls now right done more → Evaluates chunk calls state (t.Binary op left right line) done (cost + more + 1)
     -- a call of no known function is a fault before its arguments
-    unknown : {chunk : List Item} {calls line : ℕ} {state : State} {called : List ℕ} (args : List Expr) → function_of chunk called ≡ None →
-        Evaluates chunk calls state (e.Call called args line) (fails (UnknownName line) state) 1
-    argument_fails : {chunk : List Item} {calls line cost : ℕ} {state now : State} {called : List ℕ} {args : List Expr} {function : Function} {fault : Fault} → function_of chunk called ≡ Some function →
-        AllEvaluate chunk calls state args (fails fault now) cost → Evaluates chunk calls state (e.Call called args line) (fails fault now) (cost + 1)
-    too_deep : {chunk : List Item} {calls line cost : ℕ} {state now : State} {called : List ℕ} {args : List Expr} {function : Function} {values : List LuaValue} → function_of chunk called ≡ Some function →
-        AllEvaluate chunk calls state args (gives values now) cost → nat_lt calls most_calls ≡ false → Evaluates chunk calls state (e.Call called args line) (fails (TooDeepCalls line) now) (cost + 1)
-    call : {chunk : List Item} {calls line cost more : ℕ} {state now : State} {called : List ℕ} {args : List Expr} {function : Function} {values : List LuaValue} {gone : Gone} → function_of chunk called ≡ Some function →
+    unknown : {chunk : List ItemNode} {calls line : ℕ} {state : State} {called : List ℕ} {args : Nodes} → function_of chunk called ≡ None →
+        Evaluates chunk calls state (t.Call called args line) (fails (UnknownName line) state) 1
+    argument_fails : {chunk : List ItemNode} {calls line cost : ℕ} {state now : State} {called : List ℕ} {args : Nodes} {function : Function} {fault : Fault} → function_of chunk called ≡ Some function →
+        AllEvaluate chunk calls state args (fails fault now) cost → Evaluates chunk calls state (t.Call called args line) (fails fault now) (cost + 1)
+    too_deep : {chunk : List ItemNode} {calls line cost : ℕ} {state now : State} {called : List ℕ} {args : Nodes} {function : Function} {values : List LuaValue} → function_of chunk called ≡ Some function →
+        AllEvaluate chunk calls state args (gives values now) cost → nat_lt calls most_calls ≡ false → Evaluates chunk calls state (t.Call called args line) (fails (TooDeepCalls line) now) (cost + 1)
+    call : {chunk : List ItemNode} {calls line cost more : ℕ} {state now : State} {called : List ℕ} {args : Nodes} {function : Function} {values : List LuaValue} {gone : Gone} → function_of chunk called ≡ Some function →
         AllEvaluate chunk calls state args (gives values now) cost → nat_lt calls most_calls ≡ true → Runs chunk (suc calls) (entered function.params values now) function.body gone more →
-        Evaluates chunk calls state (e.Call called args line) (returned gone.way (left_call now gone.state)) (cost + more + 1)
+        Evaluates chunk calls state (t.Call called args line) (returned gone.way (left_call now gone.state)) (cost + more + 1)
     -- libraries: a name that isn't known is a fault before the arguments
-    math_unknown : {chunk : List Item} {calls line : ℕ} {state : State} {called : List ℕ} (args : List Expr) → math_of called ≡ None →
-        Evaluates chunk calls state (e.MathCall called args line) (fails (UnknownName line) state) 1
-    math_call : {chunk : List Item} {calls line cost : ℕ} {state : State} {called : List ℕ} {args : List Expr} {function : MathFunction} {parts : Done (List LuaValue)} → math_of called ≡ Some function →
+    math_unknown : {chunk : List ItemNode} {calls line : ℕ} {state : State} {called : List ℕ} {args : Nodes} → math_of called ≡ None →
+        Evaluates chunk calls state (t.MathCall called args line) (fails (UnknownName line) state) 1
+    math_call : {chunk : List ItemNode} {calls line cost : ℕ} {state : State} {called : List ℕ} {args : Nodes} {function : MathFunction} {parts : Done (List LuaValue)} → math_of called ≡ Some function →
         ¬ ((function ≡ Floor) × IsQuotient args) → AllEvaluate chunk calls state args parts cost →
-        Evaluates chunk calls state (e.MathCall called args line) (after parts (math_result function line)) (cost + 1)
+        Evaluates chunk calls state (t.MathCall called args line) (after parts (math_result function line)) (cost + 1)
     -- the quotient is a node of its own, whose faults are on its line
-    floor_call : {chunk : List Item} {calls line cost : ℕ} {state : State} {called : List ℕ} {left right : Expr} {parts : Done (List LuaValue)} (at : ℕ) → math_of called ≡ Some Floor →
-        AllEvaluate chunk calls state (left ∷ right ∷ []) parts cost →
-        Evaluates chunk calls state (e.MathCall called (e.Binary op_of.Over left right at ∷ []) line) (after parts (floor_result at)) (cost + 2)
-    table_unknown : {chunk : List Item} {calls line : ℕ} {state : State} {called : List ℕ} (args : List Expr) → table_of called ≡ None →
-        Evaluates chunk calls state (e.TableCall called args line) (fails (UnknownName line) state) 1
-    table_call : {chunk : List Item} {calls line cost : ℕ} {state : State} {called : List ℕ} {args : List Expr} {function : TableFunction} {parts : Done (List LuaValue)} → table_of called ≡ Some function →
-        AllEvaluate chunk calls state args parts cost → Evaluates chunk calls state (e.TableCall called args line) (after parts (table_result function line)) (cost + 1)
+    floor_call : {chunk : List ItemNode} {calls line cost : ℕ} {state : State} {called : List ℕ} {left right : Node} {parts : Done (List LuaValue)} {at : ℕ} → math_of called ≡ Some Floor →
+        AllEvaluate chunk calls state (left and right and none) parts cost →
+        Evaluates chunk calls state (t.MathCall called (t.Binary op_of.Over left right at and none) line) (after parts (floor_result at)) (cost + 2)
+    table_unknown : {chunk : List ItemNode} {calls line : ℕ} {state : State} {called : List ℕ} {args : Nodes} → table_of called ≡ None →
+        Evaluates chunk calls state (t.TableCall called args line) (fails (UnknownName line) state) 1
+    table_call : {chunk : List ItemNode} {calls line cost : ℕ} {state : State} {called : List ℕ} {args : Nodes} {function : TableFunction} {parts : Done (List LuaValue)} → table_of called ≡ Some function →
+        AllEvaluate chunk calls state args parts cost → Evaluates chunk calls state (t.TableCall called args line) (after parts (table_result function line)) (cost + 1)
     -- a new row, into which the entries go
-    construct : {chunk : List Item} {calls cost : ℕ} {state : State} {entries : List Entry} {done : Done LuaValue} →
-        Fills chunk calls (record state { tables = state.tables ++ [] ∷ [] }) (length state.tables) 1 entries done cost → Evaluates chunk calls state (e.Construct entries) done (cost + 1)
+    construct : {chunk : List ItemNode} {calls cost : ℕ} {state : State} {entries : EntryNodes} {done : Done LuaValue} →
+        Fills chunk calls (record state { tables = state.tables ++ [] ∷ [] }) (length state.tables) 1 entries done cost → Evaluates chunk calls state (t.Construct entries) done (cost + 1)
 
   -- several, from left to right, up to the first fault
-  pub data AllEvaluate : List Item → ℕ → State → List Expr → Done (List LuaValue) → ℕ → Type 0 where
-    none : {chunk : List Item} {calls : ℕ} {state : State} → AllEvaluate chunk calls state [] (gives [] state) 0
-    fault : {chunk : List Item} {calls cost : ℕ} {state now : State} {first : Expr} {others : List Expr} {why : Fault} →
-        Evaluates chunk calls state first (fails why now) cost → AllEvaluate chunk calls state (first ∷ others) (fails why now) cost
-    onward : {chunk : List Item} {calls cost more : ℕ} {state now : State} {first : Expr} {others : List Expr} {value : LuaValue} {rest : Done (List LuaValue)} →
+  pub data AllEvaluate : List ItemNode → ℕ → State → Nodes → Done (List LuaValue) → ℕ → Type 0 where
+    all : {chunk : List ItemNode} {calls : ℕ} {state : State} → AllEvaluate chunk calls state none (gives [] state) 0
+    fault : {chunk : List ItemNode} {calls cost : ℕ} {state now : State} {first : Node} {others : Nodes} {why : Fault} →
+        Evaluates chunk calls state first (fails why now) cost → AllEvaluate chunk calls state (first and others) (fails why now) cost
+    onward : {chunk : List ItemNode} {calls cost more : ℕ} {state now : State} {first : Node} {others : Nodes} {value : LuaValue} {rest : Done (List LuaValue)} →
         Evaluates chunk calls state first (gives value now) cost → AllEvaluate chunk calls now others rest more →
-        AllEvaluate chunk calls state (first ∷ others) (after rest (λ values last. gives (value ∷ values) last)) (cost + more)
+        AllEvaluate chunk calls state (first and others) (after rest (λ values last. gives (value ∷ values) last)) (cost + more)
 
   -- entries go into a row, each before the next is begun; the next one without a key has this number
-  pub data Fills : List Item → ℕ → State → ℕ → ℕ → List Entry → Done LuaValue → ℕ → Type 0 where
-    filled : {chunk : List Item} {calls at next : ℕ} {state : State} → Fills chunk calls state at next [] (gives (Table at) state) 0
-    value : {chunk : List Item} {calls at next cost more : ℕ} {state now : State} {of : Expr} {given : LuaValue} {others : List Entry} {done : Done LuaValue} →
+  pub data Fills : List ItemNode → ℕ → State → ℕ → ℕ → EntryNodes → Done LuaValue → ℕ → Type 0 where
+    filled : {chunk : List ItemNode} {calls at next : ℕ} {state : State} → Fills chunk calls state at next t.no_entries (gives (Table at) state) 0
+    value : {chunk : List ItemNode} {calls at next cost more : ℕ} {state now : State} {of : Node} {given : LuaValue} {others : EntryNodes} {done : Done LuaValue} →
         Evaluates chunk calls state of (gives given now) cost → Fills chunk calls (record now { tables = stored now.tables at (Number (pos next)) given }) at (next + 1) others done more →
-        Fills chunk calls state at next (entry.Value of ∷ others) done (cost + more)
-    value_fails : {chunk : List Item} {calls at next cost : ℕ} {state now : State} {of : Expr} {why : Fault} {others : List Entry} →
-        Evaluates chunk calls state of (fails why now) cost → Fills chunk calls state at next (entry.Value of ∷ others) (fails why now) cost
-    named : {chunk : List Item} {calls at next cost more : ℕ} {state now : State} {called : List ℕ} {of : Expr} {given : LuaValue} {others : List Entry} {done : Done LuaValue} →
+        Fills chunk calls state at next (t.entry (t.Value of) others) done (cost + more)
+    value_fails : {chunk : List ItemNode} {calls at next cost : ℕ} {state now : State} {of : Node} {why : Fault} {others : EntryNodes} →
+        Evaluates chunk calls state of (fails why now) cost → Fills chunk calls state at next (t.entry (t.Value of) others) (fails why now) cost
+    named : {chunk : List ItemNode} {calls at next cost more : ℕ} {state now : State} {called : List ℕ} {of : Node} {given : LuaValue} {others : EntryNodes} {done : Done LuaValue} →
         Evaluates chunk calls state of (gives given now) cost → Fills chunk calls (record now { tables = stored now.tables at (Text called) given }) at next others done more →
-        Fills chunk calls state at next (entry.Named called of ∷ others) done (cost + more)
-    named_fails : {chunk : List Item} {calls at next cost : ℕ} {state now : State} {called : List ℕ} {of : Expr} {why : Fault} {others : List Entry} →
-        Evaluates chunk calls state of (fails why now) cost → Fills chunk calls state at next (entry.Named called of ∷ others) (fails why now) cost
-    keyed : {chunk : List Item} {calls at next line cost more : ℕ} {state now : State} {key of : Expr} {where_to given : LuaValue} {others : List Entry} {done : Done LuaValue} →
-        AllEvaluate chunk calls state (key ∷ of ∷ []) (gives (where_to ∷ given ∷ []) now) cost → is_key where_to ≡ true →
-        Fills chunk calls (record now { tables = stored now.tables at where_to given }) at next others done more → Fills chunk calls state at next (entry.Keyed key of line ∷ others) done (cost + more)
+        Fills chunk calls state at next (t.entry (t.Named called of) others) done (cost + more)
+    named_fails : {chunk : List ItemNode} {calls at next cost : ℕ} {state now : State} {called : List ℕ} {of : Node} {why : Fault} {others : EntryNodes} →
+        Evaluates chunk calls state of (fails why now) cost → Fills chunk calls state at next (t.entry (t.Named called of) others) (fails why now) cost
+    keyed : {chunk : List ItemNode} {calls at next line cost more : ℕ} {state now : State} {key of : Node} {where_to given : LuaValue} {others : EntryNodes} {done : Done LuaValue} →
+        AllEvaluate chunk calls state (key and of and none) (gives (where_to ∷ given ∷ []) now) cost → is_key where_to ≡ true →
+        Fills chunk calls (record now { tables = stored now.tables at where_to given }) at next others done more → Fills chunk calls state at next (t.entry (t.Keyed key of line) others) done (cost + more)
     -- the key is looked at where the value is stored
-    no_key : {chunk : List Item} {calls at next line cost : ℕ} {state now : State} {key of : Expr} {where_to given : LuaValue} {others : List Entry} →
-        AllEvaluate chunk calls state (key ∷ of ∷ []) (gives (where_to ∷ given ∷ []) now) cost → is_key where_to ≡ false →
-        Fills chunk calls state at next (entry.Keyed key of line ∷ others) (fails (TypeFault line) now) cost
-    keyed_fails : {chunk : List Item} {calls at next line cost : ℕ} {state now : State} {key of : Expr} {why : Fault} {others : List Entry} →
-        AllEvaluate chunk calls state (key ∷ of ∷ []) (fails why now) cost → Fills chunk calls state at next (entry.Keyed key of line ∷ others) (fails why now) cost
+    no_key : {chunk : List ItemNode} {calls at next line cost : ℕ} {state now : State} {key of : Node} {where_to given : LuaValue} {others : EntryNodes} →
+        AllEvaluate chunk calls state (key and of and none) (gives (where_to ∷ given ∷ []) now) cost → is_key where_to ≡ false →
+        Fills chunk calls state at next (t.entry (t.Keyed key of line) others) (fails (TypeFault line) now) cost
+    keyed_fails : {chunk : List ItemNode} {calls at next line cost : ℕ} {state now : State} {key of : Node} {why : Fault} {others : EntryNodes} →
+        AllEvaluate chunk calls state (key and of and none) (fails why now) cost → Fills chunk calls state at next (t.entry (t.Keyed key of line) others) (fails why now) cost
 
   -- ---- statements
-  pub data Executes : List Item → ℕ → State → LuaStatement → Gone → ℕ → Type 0 where
+  pub data Executes : List ItemNode → ℕ → State → StatementNode → Gone → ℕ → Type 0 where
     -- the value doesn't see the new local
-    local_with : {chunk : List Item} {calls cost : ℕ} {state : State} {called : List ℕ} {of : Expr} {done : Done LuaValue} →
-        Evaluates chunk calls state of done cost → Executes chunk calls state (s.Local called (Some of)) (done_with done (λ given now. goes (declared called given now))) (cost + 1)
-    local_without : {chunk : List Item} {calls : ℕ} {state : State} {called : List ℕ} → Executes chunk calls state (s.Local called None) (goes (declared called Nil state)) 1
-    assign : {chunk : List Item} {calls cost : ℕ} {state : State} {called : List ℕ} {of : Expr} {done : Done LuaValue} →
-        Evaluates chunk calls state of done cost → Executes chunk calls state (s.Assign called of) (done_with done (λ given now. goes (assigned called given now))) (cost + 1)
+    local_with : {chunk : List ItemNode} {calls cost : ℕ} {state : State} {called : List ℕ} {of : Node} {done : Done LuaValue} →
+        Evaluates chunk calls state of done cost → Executes chunk calls state (t.Local called (Some of)) (done_with done (λ given now. goes (declared called given now))) (cost + 1)
+    local_without : {chunk : List ItemNode} {calls : ℕ} {state : State} {called : List ℕ} → Executes chunk calls state (t.Local called None) (goes (declared called Nil state)) 1
+    assign : {chunk : List ItemNode} {calls cost : ℕ} {state : State} {called : List ℕ} {of : Node} {done : Done LuaValue} →
+        Evaluates chunk calls state of done cost → Executes chunk calls state (t.Assign called of) (done_with done (λ given now. goes (assigned called given now))) (cost + 1)
     -- the target's table and key come before the value, and a fault of storing after it
-    set_index : {chunk : List Item} {calls line cost : ℕ} {state : State} {table key of : Expr} {parts : Done (List LuaValue)} →
-        AllEvaluate chunk calls state (table ∷ key ∷ of ∷ []) parts cost → Executes chunk calls state (s.SetIndex table key of line) (done_with parts (put line)) (cost + 1)
-    set_member : {chunk : List Item} {calls line cost : ℕ} {state : State} {table of : Expr} {called : List ℕ} {parts : Done (List LuaValue)} →
-        AllEvaluate chunk calls state (table ∷ of ∷ []) parts cost → Executes chunk calls state (s.SetMember table called of line) (done_with parts (put_member line called)) (cost + 1)
-    call_alone : {chunk : List Item} {calls cost : ℕ} {state : State} {of : Expr} {done : Done LuaValue} →
-        Evaluates chunk calls state of done cost → Executes chunk calls state (s.Call of) (done_with done (λ given now. goes now)) (cost + 1)
-    conditional : {chunk : List Item} {calls cost : ℕ} {state : State} {arms : List Arm} {otherwise : Option LuaBlock} {gone : Gone} →
-        Chooses chunk calls state arms otherwise gone cost → Executes chunk calls state (s.If arms otherwise) gone (cost + 1)
-    while_loop : {chunk : List Item} {calls cost : ℕ} {state : State} {test : Expr} {body : List LuaStatement} {gone : Gone} →
-        While chunk calls state test body gone cost → Executes chunk calls state (s.While test (block_of body)) gone (cost + 1)
-    repeat_loop : {chunk : List Item} {calls cost : ℕ} {state : State} {test : Expr} {body : List LuaStatement} {gone : Gone} →
-        Repeats chunk calls state body test gone cost → Executes chunk calls state (s.Repeat (block_of body) test) gone (cost + 1)
+    set_index : {chunk : List ItemNode} {calls line cost : ℕ} {state : State} {table key of : Node} {parts : Done (List LuaValue)} →
+        AllEvaluate chunk calls state (table and key and of and none) parts cost → Executes chunk calls state (t.SetIndex table key of line) (done_with parts (put line)) (cost + 1)
+    set_member : {chunk : List ItemNode} {calls line cost : ℕ} {state : State} {table of : Node} {called : List ℕ} {parts : Done (List LuaValue)} →
+        AllEvaluate chunk calls state (table and of and none) parts cost → Executes chunk calls state (t.SetMember table called of line) (done_with parts (put_member line called)) (cost + 1)
+    call_alone : {chunk : List ItemNode} {calls cost : ℕ} {state : State} {of : Node} {done : Done LuaValue} →
+        Evaluates chunk calls state of done cost → Executes chunk calls state (t.CallAlone of) (done_with done (λ given now. goes now)) (cost + 1)
+    conditional : {chunk : List ItemNode} {calls cost : ℕ} {state : State} {arms : ArmNodes} {gone : Gone} →
+        Chooses chunk calls state arms gone cost → Executes chunk calls state (t.If arms) gone (cost + 1)
+    while_loop : {chunk : List ItemNode} {calls cost : ℕ} {state : State} {test : Node} {body : BlockNode} {gone : Gone} →
+        While chunk calls state test body gone cost → Executes chunk calls state (t.While test body) gone (cost + 1)
+    repeat_loop : {chunk : List ItemNode} {calls cost : ℕ} {state : State} {test : Node} {body : BlockNode} {gone : Gone} →
+        Repeats chunk calls state body test gone cost → Executes chunk calls state (t.Repeat body test) gone (cost + 1)
     -- the bounds are evaluated once, and then looked at
-    bounds_fail : {chunk : List Item} {calls line cost : ℕ} {state now : State} {called : List ℕ} {why : Fault} (first : Expr) (last : Expr) (by : Option Expr) (body : List LuaStatement) →
-        AllEvaluate chunk calls state (bounds_parts first last by) (fails why now) cost → Executes chunk calls state (s.For called first last by (block_of body) line) (stops why now) (cost + 1)
-    no_bounds : {chunk : List Item} {calls line cost : ℕ} {state now : State} {called : List ℕ} {values : List LuaValue} {why : Fault} (first : Expr) (last : Expr) (by : Option Expr) (body : List LuaStatement) →
+    bounds_fail : {chunk : List ItemNode} {calls line cost : ℕ} {state now : State} {called : List ℕ} {why : Fault} {first : Node} {last : Node} {by : Option Node} {body : BlockNode} →
+        AllEvaluate chunk calls state (bounds_parts first last by) (fails why now) cost → Executes chunk calls state (t.For called first last by body line) (stops why now) (cost + 1)
+    no_bounds : {chunk : List ItemNode} {calls line cost : ℕ} {state now : State} {called : List ℕ} {values : List LuaValue} {why : Fault} {first : Node} {last : Node} {by : Option Node} {body : BlockNode} →
         AllEvaluate chunk calls state (bounds_parts first last by) (gives values now) cost → bounds_of line values ≡ Err why →
-        Executes chunk calls state (s.For called first last by (block_of body) line) (stops why now) (cost + 1)
-    for_loop : {chunk : List Item} {calls line cost more : ℕ} {state now : State} {called : List ℕ} {body : List LuaStatement} {values : List LuaValue} {bounds : Bounds} {gone : Gone} (first : Expr) (last : Expr) (by : Option Expr) →
+        Executes chunk calls state (t.For called first last by body line) (stops why now) (cost + 1)
+    for_loop : {chunk : List ItemNode} {calls line cost more : ℕ} {state now : State} {called : List ℕ} {body : BlockNode} {values : List LuaValue} {bounds : Bounds} {gone : Gone} {first : Node} {last : Node} {by : Option Node} →
         AllEvaluate chunk calls state (bounds_parts first last by) (gives values now) cost → bounds_of line values ≡ Ok bounds → Turns chunk calls now called bounds body gone more →
-        Executes chunk calls state (s.For called first last by (block_of body) line) gone (cost + more + 1)
-    do_block : {chunk : List Item} {calls cost : ℕ} {state : State} {body : List LuaStatement} {gone : Gone} →
-        Runs chunk calls state body gone cost → Executes chunk calls state (s.Do (block_of body)) (record gone { state = left_block state gone.state }) (cost + 1)
-    break_out : {chunk : List Item} {calls : ℕ} {state : State} → Executes chunk calls state s.Break (record { way = Breaks; state = state }) 1
-    return_with : {chunk : List Item} {calls cost : ℕ} {state : State} {of : Expr} {done : Done LuaValue} →
-        Evaluates chunk calls state of done cost → Executes chunk calls state (s.Return (Some of)) (done_with done (λ given now. record { way = Returns given; state = now })) (cost + 1)
-    return_without : {chunk : List Item} {calls : ℕ} {state : State} → Executes chunk calls state (s.Return None) (record { way = Returns Nil; state = state }) 1
+        Executes chunk calls state (t.For called first last by body line) gone (cost + more + 1)
+    do_block : {chunk : List ItemNode} {calls cost : ℕ} {state : State} {body : BlockNode} {gone : Gone} →
+        Runs chunk calls state body gone cost → Executes chunk calls state (t.Do body) (record gone { state = left_block state gone.state }) (cost + 1)
+    break_out : {chunk : List ItemNode} {calls : ℕ} {state : State} → Executes chunk calls state t.Break (record { way = Breaks; state = state }) 1
+    return_with : {chunk : List ItemNode} {calls cost : ℕ} {state : State} {of : Node} {done : Done LuaValue} →
+        Evaluates chunk calls state of done cost → Executes chunk calls state (t.Return (Some of)) (done_with done (λ given now. record { way = Returns given; state = now })) (cost + 1)
+    return_without : {chunk : List ItemNode} {calls : ℕ} {state : State} → Executes chunk calls state (t.Return None) (record { way = Returns Nil; state = state }) 1
 
   -- statements one after the other, up to the first way out; their locals are still there behind them
-  pub data Runs : List Item → ℕ → State → List LuaStatement → Gone → ℕ → Type 0 where
-    finished : {chunk : List Item} {calls : ℕ} {state : State} → Runs chunk calls state [] (goes state) 0
-    ended : {chunk : List Item} {calls cost : ℕ} {state : State} {first : LuaStatement} {others : List LuaStatement} {gone : Gone} →
-        Executes chunk calls state first gone cost → loops gone.way ≡ false → Runs chunk calls state (first ∷ others) gone cost
-    on : {chunk : List Item} {calls cost more : ℕ} {state now : State} {first : LuaStatement} {others : List LuaStatement} {gone : Gone} →
-        Executes chunk calls state first (goes now) cost → Runs chunk calls now others gone more → Runs chunk calls state (first ∷ others) gone (cost + more)
+  pub data Runs : List ItemNode → ℕ → State → BlockNode → Gone → ℕ → Type 0 where
+    finished : {chunk : List ItemNode} {calls : ℕ} {state : State} → Runs chunk calls state t.finished (goes state) 0
+    ended : {chunk : List ItemNode} {calls cost : ℕ} {state : State} {first : StatementNode} {others : BlockNode} {gone : Gone} →
+        Executes chunk calls state first gone cost → loops gone.way ≡ false → Runs chunk calls state (first andthen others) gone cost
+    on : {chunk : List ItemNode} {calls cost more : ℕ} {state now : State} {first : StatementNode} {others : BlockNode} {gone : Gone} →
+        Executes chunk calls state first (goes now) cost → Runs chunk calls now others gone more → Runs chunk calls state (first andthen others) gone (cost + more)
 
   -- the first arm whose test holds, or the block of `else`; an arm and a test are no statements
-  pub data Chooses : List Item → ℕ → State → List Arm → Option LuaBlock → Gone → ℕ → Type 0 where
-    no_else : {chunk : List Item} {calls : ℕ} {state : State} → Chooses chunk calls state [] None (goes state) 0
-    in_else : {chunk : List Item} {calls cost : ℕ} {state : State} {body : List LuaStatement} {gone : Gone} →
-        Runs chunk calls state body gone cost → Chooses chunk calls state [] (Some (block_of body)) (record gone { state = left_block state gone.state }) cost
-    test_fails : {chunk : List Item} {calls cost : ℕ} {state now : State} {test : Expr} {arms : List Arm} {otherwise : Option LuaBlock} {why : Fault} (body : List LuaStatement) →
-        Evaluates chunk calls state test (fails why now) cost → Chooses chunk calls state (roll-Arm (record { test = test; body = block_of body }) ∷ arms) otherwise (stops why now) cost
-    holds : {chunk : List Item} {calls cost more : ℕ} {state now : State} {test : Expr} {body : List LuaStatement} {arms : List Arm} {otherwise : Option LuaBlock} {given : LuaValue} {gone : Gone} →
+  pub data Chooses : List ItemNode → ℕ → State → ArmNodes → Gone → ℕ → Type 0 where
+    no_else : {chunk : List ItemNode} {calls : ℕ} {state : State} → Chooses chunk calls state t.no_else (goes state) 0
+    in_else : {chunk : List ItemNode} {calls cost : ℕ} {state : State} {body : BlockNode} {gone : Gone} →
+        Runs chunk calls state body gone cost → Chooses chunk calls state (t.else_do body) (record gone { state = left_block state gone.state }) cost
+    test_fails : {chunk : List ItemNode} {calls cost : ℕ} {state now : State} {test : Node} {arms : ArmNodes} {why : Fault} {body : BlockNode} →
+        Evaluates chunk calls state test (fails why now) cost → Chooses chunk calls state (t.arm test body arms) (stops why now) cost
+    holds : {chunk : List ItemNode} {calls cost more : ℕ} {state now : State} {test : Node} {body : BlockNode} {arms : ArmNodes} {given : LuaValue} {gone : Gone} →
         Evaluates chunk calls state test (gives given now) cost → is_true given ≡ true → Runs chunk calls now body gone more →
-        Chooses chunk calls state (roll-Arm (record { test = test; body = block_of body }) ∷ arms) otherwise (record gone { state = left_block now gone.state }) (cost + more)
-    fails_over : {chunk : List Item} {calls cost more : ℕ} {state now : State} {test : Expr} {arms : List Arm} {otherwise : Option LuaBlock} {given : LuaValue} {gone : Gone} (body : List LuaStatement) →
-        Evaluates chunk calls state test (gives given now) cost → is_true given ≡ false → Chooses chunk calls now arms otherwise gone more →
-        Chooses chunk calls state (roll-Arm (record { test = test; body = block_of body }) ∷ arms) otherwise gone (cost + more)
+        Chooses chunk calls state (t.arm test body arms) (record gone { state = left_block now gone.state }) (cost + more)
+    fails_over : {chunk : List ItemNode} {calls cost more : ℕ} {state now : State} {test : Node} {arms : ArmNodes} {given : LuaValue} {gone : Gone} {body : BlockNode} →
+        Evaluates chunk calls state test (gives given now) cost → is_true given ≡ false → Chooses chunk calls now arms gone more →
+        Chooses chunk calls state (t.arm test body arms) gone (cost + more)
 
   -- a turn of a `while` is begun, and paid, where its test has held
-  pub data While : List Item → ℕ → State → Expr → List LuaStatement → Gone → ℕ → Type 0 where
-    while_fails : {chunk : List Item} {calls cost : ℕ} {state now : State} {test : Expr} {body : List LuaStatement} {why : Fault} →
+  pub data While : List ItemNode → ℕ → State → Node → BlockNode → Gone → ℕ → Type 0 where
+    while_fails : {chunk : List ItemNode} {calls cost : ℕ} {state now : State} {test : Node} {body : BlockNode} {why : Fault} →
         Evaluates chunk calls state test (fails why now) cost → While chunk calls state test body (stops why now) cost
-    while_ends : {chunk : List Item} {calls cost : ℕ} {state now : State} {test : Expr} {body : List LuaStatement} {given : LuaValue} →
+    while_ends : {chunk : List ItemNode} {calls cost : ℕ} {state now : State} {test : Node} {body : BlockNode} {given : LuaValue} →
         Evaluates chunk calls state test (gives given now) cost → is_true given ≡ false → While chunk calls state test body (goes now) cost
-    while_left : {chunk : List Item} {calls cost more : ℕ} {state now : State} {test : Expr} {body : List LuaStatement} {given : LuaValue} {gone : Gone} →
+    while_left : {chunk : List ItemNode} {calls cost more : ℕ} {state now : State} {test : Node} {body : BlockNode} {given : LuaValue} {gone : Gone} →
         Evaluates chunk calls state test (gives given now) cost → is_true given ≡ true → Runs chunk calls now body gone more → loops gone.way ≡ false →
         While chunk calls state test body (record { way = out_of_loop gone.way; state = left_block now gone.state }) (cost + more + 1)
-    while_on : {chunk : List Item} {calls cost more rest : ℕ} {state now last : State} {test : Expr} {body : List LuaStatement} {given : LuaValue} {gone : Gone} →
+    while_on : {chunk : List ItemNode} {calls cost more rest : ℕ} {state now last : State} {test : Node} {body : BlockNode} {given : LuaValue} {gone : Gone} →
         Evaluates chunk calls state test (gives given now) cost → is_true given ≡ true → Runs chunk calls now body (goes last) more → While chunk calls (left_block now last) test body gone rest →
         While chunk calls state test body gone (cost + more + rest + 1)
 
   -- a turn of a `repeat` is begun before its block, whose locals the test sees
-  pub data Repeats : List Item → ℕ → State → List LuaStatement → Expr → Gone → ℕ → Type 0 where
-    repeat_left : {chunk : List Item} {calls cost : ℕ} {state : State} {body : List LuaStatement} {test : Expr} {gone : Gone} →
+  pub data Repeats : List ItemNode → ℕ → State → BlockNode → Node → Gone → ℕ → Type 0 where
+    repeat_left : {chunk : List ItemNode} {calls cost : ℕ} {state : State} {body : BlockNode} {test : Node} {gone : Gone} →
         Runs chunk calls state body gone cost → loops gone.way ≡ false →
         Repeats chunk calls state body test (record { way = out_of_loop gone.way; state = left_block state gone.state }) (cost + 1)
-    repeat_fails : {chunk : List Item} {calls cost more : ℕ} {state last now : State} {body : List LuaStatement} {test : Expr} {why : Fault} →
+    repeat_fails : {chunk : List ItemNode} {calls cost more : ℕ} {state last now : State} {body : BlockNode} {test : Node} {why : Fault} →
         Runs chunk calls state body (goes last) cost → Evaluates chunk calls last test (fails why now) more → Repeats chunk calls state body test (stops why (left_block state now)) (cost + more + 1)
-    repeat_ends : {chunk : List Item} {calls cost more : ℕ} {state last now : State} {body : List LuaStatement} {test : Expr} {given : LuaValue} →
+    repeat_ends : {chunk : List ItemNode} {calls cost more : ℕ} {state last now : State} {body : BlockNode} {test : Node} {given : LuaValue} →
         Runs chunk calls state body (goes last) cost → Evaluates chunk calls last test (gives given now) more → is_true given ≡ true →
         Repeats chunk calls state body test (goes (left_block state now)) (cost + more + 1)
-    repeat_on : {chunk : List Item} {calls cost more rest : ℕ} {state last now : State} {body : List LuaStatement} {test : Expr} {given : LuaValue} {gone : Gone} →
+    repeat_on : {chunk : List ItemNode} {calls cost more rest : ℕ} {state last now : State} {body : BlockNode} {test : Node} {given : LuaValue} {gone : Gone} →
         Runs chunk calls state body (goes last) cost → Evaluates chunk calls last test (gives given now) more → is_true given ≡ false → Repeats chunk calls (left_block state now) body test gone rest →
         Repeats chunk calls state body test gone (cost + more + rest + 1)
 
   -- a turn of a `for` is begun where its number isn't past the end; its name is a new local of the turn
-  pub data Turns : List Item → ℕ → State → List ℕ → Bounds → List LuaStatement → Gone → ℕ → Type 0 where
-    past : {chunk : List Item} {calls : ℕ} {state : State} {called : List ℕ} {bounds : Bounds} {body : List LuaStatement} → comes bounds ≡ false → Turns chunk calls state called bounds body (goes state) 0
-    turn_left : {chunk : List Item} {calls cost : ℕ} {state : State} {called : List ℕ} {bounds : Bounds} {body : List LuaStatement} {gone : Gone} → comes bounds ≡ true →
+  pub data Turns : List ItemNode → ℕ → State → List ℕ → Bounds → BlockNode → Gone → ℕ → Type 0 where
+    past : {chunk : List ItemNode} {calls : ℕ} {state : State} {called : List ℕ} {bounds : Bounds} {body : BlockNode} → comes bounds ≡ false → Turns chunk calls state called bounds body (goes state) 0
+    turn_left : {chunk : List ItemNode} {calls cost : ℕ} {state : State} {called : List ℕ} {bounds : Bounds} {body : BlockNode} {gone : Gone} → comes bounds ≡ true →
         Runs chunk calls (declared called (Number bounds.first) state) body gone cost → loops gone.way ≡ false →
         Turns chunk calls state called bounds body (record { way = out_of_loop gone.way; state = left_block state gone.state }) (cost + 1)
-    turn_on : {chunk : List Item} {calls cost rest : ℕ} {state last : State} {called : List ℕ} {bounds : Bounds} {body : List LuaStatement} {gone : Gone} → comes bounds ≡ true →
+    turn_on : {chunk : List ItemNode} {calls cost rest : ℕ} {state last : State} {called : List ℕ} {bounds : Bounds} {body : BlockNode} {gone : Gone} → comes bounds ≡ true →
         Runs chunk calls (declared called (Number bounds.first) state) body (goes last) cost → Turns chunk calls (left_block state last) called (next_turn bounds) body gone rest →
         Turns chunk calls state called bounds body gone (cost + rest + 1)

@@ -7,9 +7,10 @@
 //! (`Operators.antt`, `Library.antt`). A chunk that never ends comes to nothing there, and a call that would pay
 //! more than 500,000 units runs out (`RunsOut`).
 //!
-//! Nothing here evaluates a chunk yet.
+//! `laws` says that a call gives one answer at most. Nothing here evaluates a chunk yet.
 #![tactic(auto)]
 
 mod error;
+pub mod laws;
 
 pub use error::LuaError;

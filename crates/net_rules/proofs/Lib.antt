@@ -1,3 +1,6 @@
+mod Walks
+mod LineOrder
+mod FirstLoop
 pub mod Costs
 pub mod Waiting
 pub mod Running

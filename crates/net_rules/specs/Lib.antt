@@ -1,6 +1,9 @@
 pub mod Uses
+pub mod Sizes
 pub mod Numbers
 pub mod Rules
+pub mod Loops
+pub mod Broken
 pub mod Process
 pub mod Kahn
 pub mod Sure

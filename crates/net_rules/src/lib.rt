@@ -14,10 +14,25 @@
 //!
 //! # What it doesn't do
 //!
-//! No call here looks at a network yet: what stands are the definitions and what is known of them. It knows nothing
+//! No call here looks for every rule yet: what stands are the definitions, what is known of them, what one
+//! statement or body reads, writes and changes ([`read_of`], [`written_of`], [`changes`], [`surely_reads`]),
+//! and the one rule that looks at each process by itself ([`sure_reads`]). It knows nothing
 //! of tiles, programs or grids.
 #![tactic(auto)]
 
+mod error;
 mod laws;
+mod loops;
+mod sure;
+mod turns;
+mod uses;
 
+pub use error::RuleError;
 pub use laws::processes_wait;
+pub use loops::first_loop_without_read;
+pub use sure::surely_reads;
+pub use turns::{sure_read_fault, sure_reads};
+pub use uses::{changes, read_of, written_of};
+
+#[cfg(test)]
+mod tests;

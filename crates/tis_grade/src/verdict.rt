@@ -4,7 +4,9 @@
 #[derive(Clone, Copy, Debug, PartialEq, Eq, Hash)]
 pub enum Verdict {
     /// All outputs were as wanted after so many cycles.
-    Passed { cycles: u64 },
+    Passed {
+        cycles: u64,
+    },
     /// The output at a position has another value than is wanted at an index, counted from 0.
     Wrong {
         output: u8,
@@ -13,9 +15,15 @@ pub enum Verdict {
         got: i64,
     },
     /// The output at a position has more values than are wanted.
-    Extra { output: u8 },
+    Extra {
+        output: u8,
+    },
     /// Nothing can happen after so many cycles, and something that is wanted hasn't come.
-    Stuck { cycles: u64 },
+    Stuck {
+        cycles: u64,
+    },
     /// So many cycles weren't enough.
-    Late { limit: u64 },
+    Late {
+        limit: u64,
+    },
 }

@@ -1,0 +1,3 @@
+pub mod EventLists
+pub mod Readings
+pub mod Puzzles

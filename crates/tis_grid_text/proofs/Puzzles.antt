@@ -1,0 +1,238 @@
+-- What a grid's text gives is a puzzle.
+use Rattle.std.proofs.Common.{◌≡◌, ◌≢◌, ℕ, suc, ◌+◌, ◌<◌, ◌≤◌, ℤ, pos, true, false, cond, List, [], ◌∷◌, ◌++◌, length, get_or, Option, Some, None, Result, Ok, Err, refl, ap, ◌∙◌, subst, arith, length-append, neg_ℤ}
+use Rattle.std.specs.Prelude.{Bool, All, ◌==◌, nat_le, option_map, option_and_then}
+use Rattle.std.proofs.lemmas.Bool.{leb-true, eqb-true, eq-eqb}
+use Rattle.std.proofs.lemmas.Int.{ints}
+use Rattle.std.proofs.lemmas.List.Elements.{All-nil, All-cons, All-push}
+use Rattle.std.proofs.lemmas.List.Folds.{list_any_at}
+use Rattle.std.proofs.lemmas.List.Quantifiers.{all_pairs_push}
+use Rattle.tis_base.specs.Saturation.{IsValue}
+use Rattle.tis_base.specs.Lines.{text_lines}
+use Rattle.tis_base.specs.declared.tiles.TileKind.{TileKind}
+use Rattle.tis_words.specs.declared.comments.Comments.TheVariants.{BehindHash}
+use Rattle.tis_words.specs.Words.{Words}
+use Rattle.tis_words.specs.Lines.{NonBlank, non_blank_lines}
+use Rattle.tis_words.specs.Numerals.{number_of, value_of, at_most, spelled}
+use Rattle.tis_grid.specs.declared.puzzle.OutKind.{OutKind}
+use Rattle.tis_grid.specs.declared.puzzle.OutKind.TheVariants.{Stream, Image}
+use Rattle.tis_grid.specs.Puzzle.{Puzzle, IsPuzzle, Input, Output, has_input, has_output}
+use Rattle.tis_grid_text.specs.GridText.{Refusal, BadLine, SamePlace, is_head, kind_of, kinds_of, row_of, rows_of, tiles_of, values_of, image_of, Port, Above, Below, input_at, output_at, port_of, is_taken, with_port, with_line, goes_on, with_lines, bare, tiles_line, behind_head, grid_lines, grid_of}
+use Rattle.tis_grid_text.specs.Soundness.{GridsArePuzzles}
+
+-- ---- what holds of what is read
+
+-- a fact of the value, where there is one
+Holds : {X : Type 0} → (X → Type 0) → Option X → Type 0
+Holds P None = Unit {0}
+Holds P (Some x) = P x
+
+-- and of the puzzle, where it isn't refused
+Gets : (Puzzle → Type 0) → Result Puzzle Refusal → Type 0
+Gets P (Ok puzzle) = P puzzle
+Gets P (Err refusal) = Unit {0}
+
+holds_then : {X Y : Type 0} (P : X → Type 0) (Q : Y → Type 0) (read : Option X) (next : X → Option Y) → Holds P read → ((x : X) → P x → Holds Q (next x)) → Holds Q (option_and_then next read)
+unfolding Holds
+holds_then P Q None next holds follows = tt
+holds_then P Q (Some x) next holds follows = follows x holds
+
+holds_map : {X Y : Type 0} (P : X → Type 0) (Q : Y → Type 0) (read : Option X) (f : X → Y) → Holds P read → ((x : X) → P x → Q (f x)) → Holds Q (option_map f read)
+unfolding Holds
+holds_map P Q None f holds follows = tt
+holds_map P Q (Some x) f holds follows = follows x holds
+
+choice_holds : {X : Type 0} (P : X → Type 0) (test : Bool) (x y : Option X) → (test ≡ true → Holds P x) → Holds P y → Holds P (cond test x y)
+choice_holds P true x y first second = first refl
+choice_holds P false x y first second = second
+
+some_holds : {X : Type 0} (P : X → Type 0) (x : X) → P x → Holds P (Some x)
+unfolding Holds
+some_holds P x holds = holds
+
+none_holds : {X : Type 0} (P : X → Type 0) → Holds P None
+unfolding Holds
+none_holds P = tt
+
+-- nothing is said
+any_holds : {X : Type 0} (read : Option X) → Holds (λ _. Unit {0}) read
+unfolding Holds
+any_holds None = tt
+any_holds (Some x) = tt
+
+-- ---- numbers and values
+
+-- a number is at most the bound
+number_holds : (most : ℕ) (word : List ℕ) → Holds (λ n. n ≤ most) (number_of most word)
+unfolding number_of
+number_holds most word = holds_then (λ _. Unit {0}) (λ n. n ≤ most) (spelled word) (at_most most) (any_holds (spelled word)) (λ n _. choice_holds (λ m. m ≤ most) (nat_le n most) (Some n) None (λ is. some_holds (λ m. m ≤ most) n (leb-true n most is)) (none_holds (λ m. m ≤ most)))
+
+negative : (n : ℕ) → n ≤ 999 → IsValue (neg_ℤ (pos n))
+negative n few = (omega (arith, ints), omega (arith, ints))
+
+positive : (n : ℕ) → n ≤ 999 → IsValue (pos n)
+positive n few = (omega (arith, ints), omega (arith, ints))
+
+-- a value is one of the machine
+value_holds : (word : List ℕ) → Holds IsValue (value_of word)
+unfolding value_of
+value_holds [] = none_holds IsValue
+value_holds (byte ∷ bytes) =
+    choice_holds IsValue (byte == 45) _ _ (λ _. holds_map (λ n. n ≤ 999) IsValue (number_of 999 bytes) (λ n. neg_ℤ (pos n)) (number_holds 999 bytes) negative)
+    (holds_map (λ n. n ≤ 999) IsValue (number_of 999 (byte ∷ bytes)) (λ n. pos n) (number_holds 999 (byte ∷ bytes)) positive)
+
+values_hold : (words : Words) → Holds (λ values. All IsValue values) (values_of words)
+values_hold [] = some_holds (λ values. All IsValue values) [] (All-nil IsValue)
+values_hold (word ∷ words) =
+    holds_then IsValue (λ values. All IsValue values) (value_of word) (λ value. option_map (λ values. value ∷ values) (values_of words)) (value_holds word)
+    (λ value is. holds_map (λ values. All IsValue values) (λ values. All IsValue values) (values_of words) (λ values. value ∷ values) (values_hold words) (λ values are. All-cons IsValue value values is are))
+
+-- ---- ports
+
+-- a port stands at one of four columns, and what comes in are values
+IsPort : Port → Type 0
+IsPort (Above input) = (input.position ≤ 3) × All IsValue input.values
+IsPort (Below output) = output.position ≤ 3
+
+input_holds : (position : Option ℕ) (values : Option (List ℤ)) → Holds (λ n. n ≤ 3) position → Holds (λ v. All IsValue v) values → Holds IsPort (input_at position values)
+unfolding IsPort
+input_holds position values below are =
+    holds_then (λ n. n ≤ 3) IsPort position (λ p. option_map (λ v. Above (record { position = p; values = v })) values) below
+    (λ p within. holds_map (λ v. All IsValue v) IsPort values (λ v. Above (record { position = p; values = v })) are (λ v held. (within, held)))
+
+output_holds : (kind : OutKind) (position : Option ℕ) (values : Option (List ℤ)) → Holds (λ n. n ≤ 3) position → Holds IsPort (output_at kind position values)
+unfolding IsPort
+output_holds kind position values below =
+    holds_then (λ n. n ≤ 3) IsPort position (λ p. option_map (λ v. Below (record { position = p; kind = kind; expected = v })) values) below
+    (λ p within. holds_map (λ _. Unit {0}) IsPort values (λ v. Below (record { position = p; kind = kind; expected = v })) (any_holds values) (λ v _. within))
+
+port_holds : (words : Words) → Holds IsPort (port_of words)
+port_holds [] = none_holds IsPort
+port_holds (name ∷ []) = none_holds IsPort
+port_holds (name ∷ position ∷ words) =
+    choice_holds IsPort _ _ _ (λ _. input_holds (number_of 3 position) (values_of words) (number_holds 3 position) (values_hold words))
+    (choice_holds IsPort _ _ _ (λ _. output_holds Stream (number_of 3 position) (values_of words) (number_holds 3 position))
+    (choice_holds IsPort _ _ _ (λ _. output_holds Image (number_of 3 position) (image_of words) (number_holds 3 position)) (none_holds IsPort)))
+
+-- ---- one more port
+
+-- a position at which none stands differs from those of the others
+fresh_input : (inputs : List Input) (input : Input) → has_input inputs input.position ≡ false → (k : ℕ) (d : Input) → k < length inputs → (get_or inputs k d).position ≢ input.position
+fresh_input inputs input free k d within same = let taken = list_any_at (λ (i : Input). i.position == input.position) inputs k d within (eq-eqb _ _ same) in absurd cc
+
+fresh_output : (outputs : List Output) (output : Output) → has_output outputs output.position ≡ false → (k : ℕ) (d : Output) → k < length outputs → (get_or outputs k d).position ≢ output.position
+fresh_output outputs output free k d within same = let taken = list_any_at (λ (o : Output). o.position == output.position) outputs k d within (eq-eqb _ _ same) in absurd cc
+
+one_more : (puzzle : Puzzle) (port : Port) → IsPuzzle puzzle → IsPort port → is_taken puzzle port ≡ false → IsPuzzle (with_port puzzle port)
+unfolding IsPort
+one_more puzzle (Above input) is holds free =
+    record {
+      tiles = is.tiles;
+      inputs_below = All-push (λ (i : Input). i.position < puzzle.tiles.shape.columns) puzzle.inputs input is.inputs_below (omega (arith, is.tiles.allowed.0, holds.0));
+      outputs_below = is.outputs_below;
+      inputs_distinct = all_pairs_push (λ (a b : Input). a.position ≢ b.position) puzzle.inputs input is.inputs_distinct (fresh_input puzzle.inputs input free);
+      outputs_distinct = is.outputs_distinct;
+      values = All-push (λ (i : Input). All IsValue i.values) puzzle.inputs input is.values holds.1;
+    }
+one_more puzzle (Below output) is holds free =
+    record {
+      tiles = is.tiles;
+      inputs_below = is.inputs_below;
+      outputs_below = All-push (λ (o : Output). o.position < puzzle.tiles.shape.columns) puzzle.outputs output is.outputs_below (omega (arith, is.tiles.allowed.0, holds));
+      inputs_distinct = is.inputs_distinct;
+      outputs_distinct = all_pairs_push (λ (a b : Output). a.position ≢ b.position) puzzle.outputs output is.outputs_distinct (fresh_output puzzle.outputs output free);
+      values = is.values;
+    }
+
+line_gets : (puzzle : Puzzle) (number : ℕ) (port : Option Port) → IsPuzzle puzzle → Holds IsPort port → Gets IsPuzzle (with_line puzzle number port)
+unfolding Holds Gets
+line_gets puzzle number None is holds = tt
+line_gets puzzle number (Some port) is holds =
+    elim (is_taken puzzle port) as (λ b. is_taken puzzle port ≡ b → Gets IsPuzzle (cond b (Err (SamePlace number)) (Ok (with_port puzzle port)))) [
+      | true ↦ λ _. tt
+      | false ↦ λ free. one_more puzzle port is holds free
+    ] refl
+
+goes_on_gets : (read : Result Puzzle Refusal) (next : Puzzle → Result Puzzle Refusal) → Gets IsPuzzle read → ((puzzle : Puzzle) → IsPuzzle puzzle → Gets IsPuzzle (next puzzle)) → Gets IsPuzzle (goes_on read next)
+unfolding Gets
+goes_on_gets (Ok puzzle) next is follows = follows puzzle is
+goes_on_gets (Err refusal) next is follows = tt
+
+lines_get : (lines : List NonBlank) (puzzle : Puzzle) → IsPuzzle puzzle → Gets IsPuzzle (with_lines puzzle lines)
+unfolding Gets
+lines_get [] puzzle is = is
+lines_get (line ∷ lines) puzzle is = goes_on_gets (with_line puzzle line.number (port_of line.words)) (λ more. with_lines more lines) (line_gets puzzle line.number (port_of line.words) is (port_holds line.words)) (lines_get lines)
+
+-- ---- the tiles
+
+kinds_hold : (word : List ℕ) → Holds (λ kinds. length kinds ≡ length word) (kinds_of word)
+kinds_hold [] = some_holds (λ kinds. length kinds ≡ 0) [] refl
+kinds_hold (byte ∷ bytes) =
+    holds_then (λ _. Unit {0}) (λ kinds. length kinds ≡ suc (length bytes)) (kind_of byte) (λ kind. option_map (λ kinds. kind ∷ kinds) (kinds_of bytes)) (any_holds (kind_of byte))
+    (λ kind _. holds_map (λ kinds. length kinds ≡ length bytes) (λ kinds. length kinds ≡ suc (length bytes)) (kinds_of bytes) (λ kinds. kind ∷ kinds) (kinds_hold bytes) (λ kinds is. ap suc is))
+
+holds_more : {X : Type 0} (P Q : X → Type 0) (read : Option X) → Holds P read → ((x : X) → P x → Q x) → Holds Q read
+unfolding Holds
+holds_more P Q None holds follows = tt
+holds_more P Q (Some x) holds follows = follows x holds
+
+row_holds : (word : List ℕ) → Holds (λ kinds. length kinds ≡ 4) (row_of word)
+row_holds word =
+    choice_holds (λ kinds. length kinds ≡ 4) (length word == 4) (kinds_of word) None
+    (λ is. holds_more (λ kinds. length kinds ≡ length word) (λ kinds. length kinds ≡ 4) (kinds_of word) (kinds_hold word) (λ kinds same. same ∙ eqb-true (length word) 4 is))
+    (none_holds (λ kinds. length kinds ≡ 4))
+
+rows_hold : (first second third : List ℕ) → Holds (λ kinds. length kinds ≡ 12) (rows_of first second third)
+rows_hold first second third =
+    holds_then (λ kinds. length kinds ≡ 4) (λ kinds. length kinds ≡ 12) (row_of first) _ (row_holds first)
+    (λ a a-is. holds_then (λ kinds. length kinds ≡ 4) (λ kinds. length kinds ≡ 12) (row_of second) _ (row_holds second)
+    (λ b b-is. holds_map (λ kinds. length kinds ≡ 4) (λ kinds. length kinds ≡ 12) (row_of third) (λ c. (a ++ b) ++ c) (row_holds third)
+    (λ c c-is. omega (arith, length-append (a ++ b) c, length-append a b, a-is, b-is, c-is))))
+
+tiles_hold : (words : Words) → Holds (λ kinds. length kinds ≡ 12) (tiles_of words)
+tiles_hold [] = none_holds (λ (kinds : List TileKind). length kinds ≡ 12)
+tiles_hold (a ∷ []) = none_holds (λ (kinds : List TileKind). length kinds ≡ 12)
+tiles_hold (a ∷ b ∷ []) = none_holds (λ (kinds : List TileKind). length kinds ≡ 12)
+tiles_hold (a ∷ b ∷ c ∷ []) = none_holds (λ (kinds : List TileKind). length kinds ≡ 12)
+tiles_hold (name ∷ first ∷ second ∷ third ∷ []) = choice_holds (λ kinds. length kinds ≡ 12) _ (rows_of first second third) None (λ _. rows_hold first second third) (none_holds (λ kinds. length kinds ≡ 12))
+tiles_hold (a ∷ b ∷ c ∷ d ∷ e ∷ words) = none_holds (λ (kinds : List TileKind). length kinds ≡ 12)
+
+-- tiles without a port are a puzzle
+bare_is : (kinds : List TileKind) → length kinds ≡ 12 → IsPuzzle (bare kinds)
+bare_is kinds is =
+    record {
+      tiles = record { allowed = (refl, refl); filled = is };
+      inputs_below = All-nil (λ (input : Input). input.position < 4);
+      outputs_below = All-nil (λ (output : Output). output.position < 4);
+      inputs_distinct = λ i j d first within. absurd (omega arith);
+      outputs_distinct = λ i j d first within. absurd (omega arith);
+      values = All-nil (λ (input : Input). All IsValue input.values);
+    }
+
+tiles_get : (number : ℕ) (kinds : Option (List TileKind)) (lines : List NonBlank) → Holds (λ k. length k ≡ 12) kinds → Gets IsPuzzle (tiles_line number kinds lines)
+unfolding Holds Gets
+tiles_get number None lines holds = tt
+tiles_get number (Some kinds) lines holds = lines_get lines (bare kinds) (bare_is kinds holds)
+
+-- ---- the whole text
+
+behind_gets : (missing : ℕ) (lines : List NonBlank) → Gets IsPuzzle (behind_head missing lines)
+unfolding Gets
+behind_gets missing [] = tt
+behind_gets missing (line ∷ lines) = tiles_get line.number (tiles_of line.words) lines (tiles_hold line.words)
+
+text_gets : (missing : ℕ) (lines : List NonBlank) → Gets IsPuzzle (grid_lines missing lines)
+unfolding Gets
+text_gets missing [] = tt
+text_gets missing (line ∷ lines) =
+    elim (is_head line.words) as (λ b. Gets IsPuzzle (cond b (behind_head missing lines) (Err (BadLine line.number)))) [
+      | true ↦ behind_gets missing lines
+      | false ↦ tt
+    ]
+
+taken_apart : (read : Result Puzzle Refusal) (puzzle : Puzzle) → Gets IsPuzzle read → read ≡ Ok puzzle → IsPuzzle puzzle
+unfolding Gets
+taken_apart (Ok other) puzzle is same = let e : other ≡ puzzle = cc in subst IsPuzzle e is
+taken_apart (Err refusal) puzzle is same = absurd cc
+
+pub grids_are_puzzles : GridsArePuzzles
+grids_are_puzzles text puzzle is = taken_apart (grid_of text) puzzle (text_gets (length (text_lines text) + 1) (non_blank_lines BehindHash text)) is

@@ -1,0 +1,4 @@
+pub mod Answering
+pub mod EventsText
+pub mod GridText
+pub mod Soundness
