@@ -1,5 +1,5 @@
 -- What was fetched for a command, and what it comes to.
-use Rattle.std.proofs.Common.{◌≡◌, ℕ, List, [], ◌∷◌, Option, Some, None, Result, Ok, Err, refl, sym, ap, subst, ◌∙◌}
+use Rattle.std.proofs.Common.{◌≡◌, ℕ, List, [], ◌∷◌, Option, Some, Result, Ok, Err, refl, sym, ap, ◌∙◌}
 use Rattle.std.specs.Prelude.{IfSome}
 use Rattle.tis_base.specs.Outside.{Texts, text_at}
 use Rattle.tis_cli.specs.declared.status.Status.{Status}
@@ -8,7 +8,7 @@ use Rattle.tis_cli.specs.declared.runs.Run.{Run}
 use Rattle.tis_cli.specs.Answers.{Answer, Refuses, Makes}
 use Rattle.tis_cli.specs.Commands.{Command, Order, Replay, fetched, ComesTo}
 use Rattle.tis_cli.specs.Runs.{order_answer, replay_answer}
-use Rattle.tis_cli.specs.Ends.{Ends, Stops}
+use Rattle.tis_cli.specs.Ends.{Ends}
 use Rattle.tis_cli.specs.Outcomes.{texts_under, with_first, AreFetched, Runs}
 use Rattle.tis_cli.proofs.Explained.{told_is}
 

@@ -1,13 +1,13 @@
 -- What a command that puts a report explains.
-use Rattle.std.proofs.Common.{◌≡◌, ℕ, List, [], ◌∷◌, ◌++◌, Option, Some, None, option_map, Result, Ok, Err, refl, sym, ap, subst, ◌∙◌, inl, inr}
+use Rattle.std.proofs.Common.{◌≡◌, ℕ, List, ◌++◌, Option, Some, option_map, Result, Ok, Err, refl, sym, subst, ◌∙◌, inl, inr}
 use Rattle.tis_base.specs.Outside.{Texts, WrotePrefix}
 use Rattle.tis_cli.specs.declared.status.Status.{Status}
 use Rattle.tis_cli.specs.declared.status.Status.TheVariants.{Done, Words, Refused, Missing, StoreFault, SinkFault, NoMemory, Limit}
 use Rattle.tis_cli.specs.declared.status.Refusal.{Refusal}
 use Rattle.tis_cli.specs.declared.runs.Run.{Run}
-use Rattle.tis_cli.specs.Answers.{Completion, AllDone, Limited, Stopped, Answer, Refuses, Makes, Destination, Put, completion_status}
-use Rattle.tis_cli.specs.Commands.{Command, fetched, destination_of, ComesTo, IsPromised}
-use Rattle.tis_cli.specs.Outcomes.{World, Arrives, IfAllDone, IsAnswered, IsCutShort, Explains, IsRun, IsRefusal, HasNoRun, Runs, IsPut, AreEnds, Finishes}
+use Rattle.tis_cli.specs.Answers.{Completion, AllDone, Limited, Stopped, Refuses, Makes, Destination, Put, completion_status}
+use Rattle.tis_cli.specs.Commands.{Command, destination_of, IsPromised}
+use Rattle.tis_cli.specs.Outcomes.{Arrives, IfAllDone, IsAnswered, IsCutShort, Explains, IsRun, IsRefusal, HasNoRun, Runs, IsPut, AreEnds, Finishes}
 
 -- a command has a run with the status of an end, or a status that can stand before it
 pub runs_end : (command : Command) (told : Option Texts) (work : Result Run Status) → Runs command told work → AreEnds work

@@ -8,16 +8,15 @@ use Rattle.tis_grid.specs.declared.running.Ended.TheVariants.{Rest, Limit}
 use Rattle.tis_grid.specs.Puzzle.{Puzzle}
 use Rattle.tis_grid.specs.State.{Grid, IsGrid, State, start}
 use Rattle.tis_grid.specs.Events.{is_enabled, IsEnabled, after_event, step}
-use Rattle.tis_grid.specs.Orders.{after, IsAtRest}
+use Rattle.tis_grid.specs.Orders.{after}
 use Rattle.tis_grid.specs.Choices.{enabled_events}
 use Rattle.tis_grid.specs.Drawn.{drawn}
 use Rattle.tis_grid.specs.Running.{StopsAt, EndsAs}
 use Rattle.tis_grid.proofs.Listed.{rest_lists_none}
 use Rattle.tis_report.specs.Reports.{ended_text, replayed_text, not_enabled_text}
-use Rattle.tis_cli.specs.declared.status.Status.{Status}
 use Rattle.tis_cli.specs.declared.status.Status.TheVariants.{Done, Refused}
 use Rattle.tis_cli.specs.declared.status.Refusal.TheVariants.{NotEnabled}
-use Rattle.tis_cli.specs.Answers.{Completion, AllDone, Limited, Stopped, Answer, Makes, completion_status}
+use Rattle.tis_cli.specs.Answers.{Completion, AllDone, Limited, Stopped, Makes, completion_status}
 use Rattle.tis_cli.specs.Runs.{ended_by, ordered, replayed_at, replayed_from, replayed, over_events}
 use Rattle.tis_cli.specs.Ends.{ended_status}
 

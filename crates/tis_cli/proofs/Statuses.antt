@@ -7,9 +7,9 @@ use Rattle.tis_cli.specs.declared.status.Refusal.{Refusal}
 use Rattle.net_column.specs.Net.{Net}
 use Rattle.net_column.specs.Compiled.{compiled}
 use Rattle.tis_save.specs.Writing.{save_text}
-use Rattle.tis_cli.specs.Answers.{Completion, AllDone, Limited, Stopped, Answer, Refuses, Makes, Destination, Kept, Put, answer_status, completion_status}
+use Rattle.tis_cli.specs.Answers.{Completion, AllDone, Limited, Stopped, Answer, Refuses, Makes, Destination, Kept, Put, answer_status}
 use Rattle.tis_cli.specs.Commands.{Command, Compile, Order, Replay, OrdersTo, ReplaysTo, command_of, fetched, destination_of, CompilesTo, ComesTo, AnswersAreOne}
-use Rattle.tis_cli.specs.Outcomes.{IsCalled, PutsReport, PutsBytes, texts_under, World, IsOfAnswer, IsAnswered, IsCutShort, IsUnlessFailure, Explains}
+use Rattle.tis_cli.specs.Outcomes.{IsCalled, PutsBytes, texts_under, World, IsOfAnswer, IsAnswered, IsCutShort, IsUnlessFailure, Explains}
 use Rattle.net_column.proofs.Found.{texts_have_one_net}
 
 same_texts : {a b : List (List ℕ)} {found : Option (List (List ℕ))} → found ≡ Some a → found ≡ Some b → a ≡ b

@@ -1,5 +1,5 @@
 -- What a run over texts answers, beside what the texts come to.
-use Rattle.std.specs.Prelude.{◌≡◌, ℕ, List, Result, Ok, Err}
+use Rattle.std.specs.Prelude.{◌≡◌, Result, Ok, Err}
 use Rattle.tis_grid.specs.State.{Grid}
 use Rattle.tis_grid.specs.declared.running.Ended.{Ended}
 use Rattle.tis_grid.specs.declared.running.Ended.TheVariants as ended

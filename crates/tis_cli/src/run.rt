@@ -108,7 +108,7 @@ fn finish<K: Sink>(work: Result<Run, Status>, out: &mut K) -> Status
 {
     match work {
         Ok(run) => put_report(&run, out),
-        Err(status) => status,
+        Err(early) => early,
     }
 }
 

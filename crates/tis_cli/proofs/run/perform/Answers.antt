@@ -1,5 +1,5 @@
 use Rattle.std.proofs.Common.{refl, sym, ◌∙◌}
-use Rattle.tis_cli.specs.Commands.{Compile, Order, Replay}
+use Rattle.tis_cli.specs.Commands.{Order, Replay}
 use Rattle.tis_cli.proofs.Putting.{runs_end, finished}
 use Rattle.tis_cli.proofs.Statuses.{never_put}
 use Rattle.tis_cli.proofs.run.perform.Goals as goal
