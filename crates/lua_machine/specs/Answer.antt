@@ -30,7 +30,7 @@ pub record Paid (T : Type 0) : Type 0 where
   pub value : T
   pub cost : ℕ
 
--- what is made of each of these values, and one list of them
+-- what is made of each of these values, as one list, and the sum of the units
 abbrev pub each : (LuaValue → Paid PlainValue) → List LuaValue → Paid PlainValues
 each make [] = record { value = no_values; cost = 0 }
 each make (first ∷ more) = record { value = (make first).value and (each make more).value; cost = (make first).cost + (each make more).cost }
@@ -91,7 +91,7 @@ most_units = 500000
 abbrev pub Answers : List ItemNode → List ℕ → ℕ → Result PlainValue Fault → ℕ → Type 0
 Answers chunk called seed answer cost = Yields chunk called seed answer cost × (cost ≤ most_units)
 
--- one more unit would be paid than may be, before any answer
+-- no answer comes at a cost of as many units as may be paid, or fewer
 abbrev pub RunsOut : List ItemNode → List ℕ → ℕ → Type 0
 RunsOut chunk called seed = (answer : Result PlainValue Fault) (cost : ℕ) → Answers chunk called seed answer cost → ⊥
 

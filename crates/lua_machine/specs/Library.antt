@@ -35,7 +35,7 @@ drawn line first last state =
     if int_lt last first then fails (OutOfRange line) state
     else gives (Number (chosen (pcg32 state.generator).0 first last)) (record state { generator = (pcg32 state.generator).1 })
 
--- a wrong number of arguments is a fault of their kind, too
+-- a wrong number of arguments is a TypeFault too
 abbrev pub math_result : MathFunction → ℕ → List LuaValue → State → Done LuaValue
 math_result Random line (Number last ∷ []) state = drawn line (pos 1) last state
 math_result Random line (Number first ∷ Number last ∷ []) state = drawn line first last state
@@ -45,7 +45,7 @@ math_result Min line (Number a ∷ Number b ∷ []) state = gives (Number (int_m
 math_result Max line (Number a ∷ Number b ∷ []) state = gives (Number (int_max a b)) state
 math_result _ line _ state = fails (TypeFault line) state
 
--- a value behind the border, where nil stores nothing
+-- a value is put behind the border, where nil stores nothing; it gives nil
 abbrev pub inserted : ℕ → LuaValue → State → Done LuaValue
 inserted at value state = gives Nil (record state { tables = stored state.tables at (Number (pos (border (row state.tables at) + 1))) value })
 

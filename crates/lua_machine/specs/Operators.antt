@@ -89,7 +89,7 @@ abbrev untruth : Result Bool Fault → Answer
 untruth (Ok b) = Ok (Truth (not b))
 untruth (Err fault) = Err fault
 
--- what arithmetic makes of two numbers
+-- what arithmetic makes of two numbers; no other operator comes here
 abbrev pub arithmetic : BinaryOp → ℕ → ℤ → ℤ → Answer
 arithmetic binary.Plus line a b = number line (a +ℤ b)
 arithmetic binary.Minus line a b = number line (a -ℤ b)

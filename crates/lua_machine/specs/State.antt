@@ -1,4 +1,4 @@
--- What an evaluation stands on and changes: variables, tables, and the random words that are left to come.
+-- What an evaluation stands on and changes: variables, tables, and the random generator, which stands for the seed and the number of words drawn.
 use Rattle.std.specs.Prelude.{ℕ, pos, ◌-◌, Bool, false, ◌||◌, List, [], ◌∷◌, length, drop, if◌then◌else◌, Result, Ok, Err, codes}
 use Rattle.std.specs.Str.{bytes_eq}
 use Rattle.rand_pcg.specs.Lcg.{Lcg, started, increment_of}

@@ -2,7 +2,7 @@
 use Rattle.std.specs.Prelude.{ℕ, zero, suc, ◌+◌, pos, List, [], ◌∷◌, length, get_or, set, if◌then◌else◌}
 use Rattle.lua_machine.specs.Value.{LuaValue, Nil, Number, is_same, is_nil}
 
--- a table: no key stands twice, and none has nil
+-- a table: its keys with their values; in one that an evaluation makes no key stands twice, and none has nil
 abbrev pub Entries : Type 0
 Entries = List (LuaValue × LuaValue)
 
@@ -11,7 +11,7 @@ abbrev pub at_key : Entries → LuaValue → LuaValue
 at_key [] key = Nil
 at_key (entry ∷ more) key = if is_same entry.0 key then entry.1 else at_key more key
 
--- without a key
+-- the entries but that of this key
 abbrev pub without : Entries → LuaValue → Entries
 without [] key = []
 without (entry ∷ more) key = if is_same entry.0 key then without more key else entry ∷ without more key
@@ -29,11 +29,12 @@ run_from (suc most) table first = if is_nil (at_key table (Number (pos first))) 
 abbrev pub border : Entries → ℕ
 border table = run_from (length table) table 1
 
--- the values at 1 up to the border
+-- so many values from a number on
 abbrev pub values_from : ℕ → Entries → ℕ → List LuaValue
 values_from zero table first = []
 values_from (suc count) table first = at_key table (Number (pos first)) ∷ values_from count table (first + 1)
 
+-- the values at 1 up to the border
 abbrev pub plain_list : Entries → List LuaValue
 plain_list table = values_from (border table) table 1
 

@@ -17,7 +17,7 @@ pub data Fault : Type 0 where
   TypeFault : (line : ℕ) → Fault
   -- a call of no known function
   UnknownName : (line : ℕ) → Fault
-  -- a quotient that isn't whole, or a divisor 0
+  -- a quotient that isn't whole and isn't under `math.floor`, or a divisor 0 of `/` or `%`
   Inexact : (line : ℕ) → Fault
   -- a number past 2^53 either way, a draw from nothing, or a step 0
   OutOfRange : (line : ℕ) → Fault

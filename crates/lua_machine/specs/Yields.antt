@@ -1,4 +1,4 @@
--- What a node comes to, from a state, with so many calls open: a value, a way out of a block or a fault, the state behind it, and how
+-- What a node of a chunk comes to, from a state, with so many calls open (`Evaluates` to `Turns`; `Yields` of the file Answer is the whole call): a value, a way out of a block or a fault, the state behind it, and how
 -- many units were paid. One unit is paid when a statement, an expression or a turn of a loop is begun, before anything else of it.
 -- A fault of a part is the fault of the whole. What never ends comes to nothing.
 use Rattle.std.specs.Prelude.{◌≡◌, ℕ, suc, ◌+◌, ℤ, pos, ◌+ℤ◌, nat_abs, int_lt, int_le, Bool, true, false, ◌&&◌, nat_le, nat_lt, List, [], ◌∷◌, ◌++◌, length, if◌then◌else◌, Option, Some, None, Result, Ok, Err}
@@ -33,7 +33,7 @@ after_parts (Err fault) state make = fails fault state
 abbrev pub after : {T R : Type 0} → Done T → (T → State → Done R) → Done R
 after done make = after_parts done.outcome done.state make
 
--- the value of a key; a key of a wrong kind is a fault, and so is an index of what is no table
+-- the value at a key; a key of a wrong kind is a fault, and so is an index of what is no table
 abbrev pub indexed : ℕ → List LuaValue → State → Done LuaValue
 indexed line (Table at ∷ key ∷ []) state = if is_key key then gives (at_key (row state.tables at) key) state else fails (TypeFault line) state
 indexed line _ state = fails (TypeFault line) state
@@ -264,7 +264,7 @@ mutual
     on : {chunk : List ItemNode} {calls cost more : ℕ} {state now : State} {first : StatementNode} {others : BlockNode} {gone : Gone} →
         Executes chunk calls state first (goes now) cost → Runs chunk calls now others gone more → Runs chunk calls state (first andthen others) gone (cost + more)
 
-  -- the first arm whose test holds, or the block of `else`; an arm and a test are no statements
+  -- the first arm whose test holds, or the block of `else`; an arm costs no unit of its own, and its test those of an expression
   pub data Chooses : List ItemNode → ℕ → State → ArmNodes → Gone → ℕ → Type 0 where
     no_else : {chunk : List ItemNode} {calls : ℕ} {state : State} → Chooses chunk calls state t.no_else (goes state) 0
     in_else : {chunk : List ItemNode} {calls cost : ℕ} {state : State} {body : BlockNode} {gone : Gone} →
