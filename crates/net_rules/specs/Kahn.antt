@@ -1,4 +1,4 @@
--- The streams of a network, found process by process in the order of the text. Without feedback that solves the equations that Kahn writes for them.
+-- The streams of a network (Kahn 1974), found process by process in the order of the text, each over the whole streams that it reads: there is no feedback.
 use Rattle.std.specs.Prelude.{ℕ, ◌+◌, ◌*◌, ℤ, List, [], ◌∷◌, ◌++◌, length, sum_by, ◌==◌, if◌then◌else◌}
 use Rattle.std.specs.List.{list_any, range_with_len}
 use Rattle.net_tree.specs.Tree.{Block}
@@ -6,7 +6,7 @@ use Rattle.net_rules.specs.Uses.{reads_in}
 use Rattle.net_rules.specs.Numbers.{NumberedNet, readable_count}
 use Rattle.net_rules.specs.Process.{Streams, Execution, process_run, cost}
 
--- the values that come in at each position, first to last; where none do, there are none
+-- the values that come in at each position, first to last; where none do, there are none. Of a list of inputs at distinct positions they are the values of the one at the position
 abbrev pub Inputs : Type 0
 Inputs = ℕ → List ℤ
 
@@ -52,7 +52,7 @@ stream_at number (position ∷ positions) streams at = if position == at then st
 abbrev pub kahn_at : NumberedNet → Inputs → ℕ → List ℤ
 kahn_at net inputs at = stream_at (readable_count net) net.outputs (kahn_streams net inputs) at
 
--- the steps that all processes take, each over the whole streams
+-- the steps that all processes take, each over the whole streams: in an accepted network nothing is sent later on what a process reads
 abbrev pub steps : NumberedNet → Inputs → ℕ
 steps net inputs = sum_by (λ body. (run_of net (kahn_streams net inputs) body).state.steps) net.processes
 

@@ -16,7 +16,7 @@ Waits execution = (name : ℕ) × (execution.outcome ≡ WaitsOn name)
 abbrev pub NetHasValues : Net → Type 0
 NetHasValues net = All (λ (process : ProcessText). HasValues process.body) net.processes
 
--- a process of an accepted network never runs out of fuel: over any streams of values, with more fuel than its limit of steps, it comes to wait
+-- a process of an accepted network, whose numbers are values of the machine, never runs out of fuel: over any streams of values, with more fuel than its limit of steps, it comes to wait
 abbrev pub ProcessesWait : Type 0
 ProcessesWait = (net : Net) (streams : Streams) (body : Block ℕ) (fuel : ℕ) → IsAccepted net → NetHasValues net → ((name : ℕ) → All IsValue (streams name)) → Contains (numbered net).processes body →
     step_limit (numbered net) streams body < fuel → Waits (process_run body streams fuel)

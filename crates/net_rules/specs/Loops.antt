@@ -1,4 +1,4 @@
--- The first `while` of a body that may do a turn without a read, found without putting the statements in order.
+-- The first `while` of a body whose block doesn't surely read, found without putting the statements in order.
 use Rattle.std.specs.Prelude.{◌≡◌, ℕ, [], Option, Some, None, option_map, min, if◌then◌else◌}
 use Rattle.net_tree.specs.Tree.{Name, Statement, If, While, Count, Block, Empty, Then}
 use Rattle.net_rules.specs.Rules.{loops_without_read, loop_fault, by_line, placed_in, LoopWithoutRead}

@@ -5,7 +5,7 @@ use Rattle.std.specs.Str.{bytes_eq}
 use Rattle.tis_base.specs.Tiles.{Tiles}
 use Rattle.net_tree.specs.Tree.{Name, Statement, Get, GetAdd, GetSub, Put, PutNumber, Move, Set, Add, Sub, Neg, Double, Copy, Swap, If, While, Count, Block, Empty, Then, Net}
 
--- the positions of the inputs, how many channels there are, the positions of the outputs, and the bodies of the processes. The inputs have the first numbers, then the channels, then the outputs
+-- the tiles, the positions of the inputs, how many channels there are, the positions of the outputs, and the bodies of the processes. The inputs have the first numbers, then the channels, then the outputs
 pub record NumberedNet : Type 0 where
   pub tiles : Tiles
   pub inputs : List ℕ

@@ -174,7 +174,7 @@ process_run body streams fuel = rounds body (beginning streams fuel)
 -- ---- the most steps
 
 abbrev mutual
-  -- the most steps that a statement takes for each time that it waits: a `count` has at most 999 turns, and each turn of a `while` reads
+  -- the most steps that a statement takes before its first read, between two reads, and behind the last: a `count` has at most 999 turns, and each turn of a `while` reads
   pub statement_cost : Statement ℕ → ℕ
   statement_cost (If var test first second) = 1 + (block_cost first + block_cost second)
   statement_cost (While var test body) = 2 + 2 * block_cost body
@@ -186,6 +186,6 @@ abbrev mutual
   block_cost Empty = 0
   block_cost (Then line statement rest) = statement_cost statement + block_cost rest
 
--- the most steps of a process for each value that it can read
+-- the most steps of a process before its first read, and behind each
 abbrev pub cost : Block ℕ → ℕ
 cost body = 2 + 2 * block_cost body

@@ -79,13 +79,13 @@ declarations net =
     by_line (λ declaration. declaration.line)
     (map input_declared net.inputs ++ (map channel_declared net.channels ++ (map output_declared net.outputs ++ map process_declared net.processes)))
 
--- whether two declarations share a space of names: those of processes are apart from those of inputs, channels and outputs
 abbrev pub is_process : Kind → Bool
 is_process Process = true
 is_process (Input position) = false
 is_process Channel = false
 is_process (Output position) = false
 
+-- whether two declarations share a space of names: those of processes are apart from those of inputs, channels and outputs
 abbrev pub share_names : Kind → Kind → Bool
 share_names a b = if is_process a then is_process b else not (is_process b)
 
@@ -150,7 +150,7 @@ abbrev pub used_elsewhere : (Statement Name → Option Name) → List Placed →
 used_elsewhere use_of earlier process None = false
 used_elsewhere use_of earlier process (Some name) = list_any (λ other. not (other.process == process) && is_name name (use_of other.statement)) earlier
 
--- what is wrong with a statement: a name that isn't there, a name that another process reads or writes already, or a `count` whose variable is changed inside it
+-- what is wrong with a statement: a name that isn't there, a name that another process reads or writes already, or a variable that it changes inside a `count` of it
 abbrev pub statement_fault : Net → List Placed → Placed → Option BrokenRule
 statement_fault net earlier placed =
     option_or (broken_where (isnt_among (readable net) (read_of placed.statement)) (Unknown placed.line))
@@ -197,7 +197,7 @@ order_fault net earlier placed = broken_where (reads_too_early net placed.proces
 
 -- ---- sure reads
 
--- whether a statement is a `while` whose block may do a round without a read
+-- whether a statement is a `while` whose block doesn't surely read
 abbrev pub loops_without_read : Statement Name → Bool
 loops_without_read (While var test body) = not (surely_reads body)
 loops_without_read _ = false
@@ -212,7 +212,7 @@ sure_read_fault process body =
     option_or (broken_where (not (surely_reads body)) (NoSureRead process))
     (loop_fault (by_line (λ placed. placed.line) (placed_in process [] body)))
 
--- the first process of these that may do a round, or a turn of a loop, without a read
+-- the first process of these whose body, or the block of a `while` in it, doesn't surely read
 abbrev pub sure_reads_from : ℕ → List ProcessText → Option BrokenRule
 sure_reads_from number [] = None
 sure_reads_from number (process ∷ processes) = option_or (sure_read_fault number process.body) (sure_reads_from (number + 1) processes)

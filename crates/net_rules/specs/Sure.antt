@@ -1,4 +1,4 @@
--- What the rules say of one body, by itself: whatever it reads, a round and each loop come to an end or to a read that waits.
+-- What holds of the body of an accepted process whose numbers are values, statement by statement.
 use Rattle.std.specs.Prelude.{◌≡◌, Bool, true, false, ◌||◌}
 use Rattle.tis_base.specs.Saturation.{IsValue}
 use Rattle.net_tree.specs.declared.tree.Var.{Var}

@@ -48,7 +48,7 @@ as_list None = []
 as_list (Some name) = name ∷ []
 
 abbrev mutual
-  -- the names that a block reads, its inner blocks among it, as often as they stand there
+  -- the names that a block reads, those of its inner blocks among them, as often as they stand there
   pub reads_in : {N : Type 0} → Block N → List N
   reads_in Empty = []
   reads_in (Then line statement rest) = as_list (read_of statement) ++ (reads_inside statement ++ reads_in rest)

@@ -8,13 +8,13 @@ use std::fmt;
 pub enum RuleError {
     /// A read of a name that is no input or channel, or a write of one that is no output or channel.
     Unknown { line: usize },
-    /// A name that an earlier line declares.
+    /// A name that an earlier input, output or channel has, or, of a process, that an earlier process has.
     Repeated { line: usize },
     /// A position that an earlier line of the same side has.
     SamePlace { line: usize },
-    /// A read of a name that another process reads.
+    /// A read of a name that an earlier statement of another process reads.
     ReadTwice { line: usize },
-    /// A write of a name that another process writes.
+    /// A write of a name that an earlier statement of another process writes.
     WrittenTwice { line: usize },
     /// A statement in a `count` that changes its variable.
     CounterChanged { line: usize },
@@ -24,9 +24,9 @@ pub enum RuleError {
     Unwritten { line: usize },
     /// A read of a channel whose writer doesn't stand earlier.
     ReadBeforeWritten { line: usize },
-    /// A process that may do a round without a read.
+    /// A process whose body doesn't surely read.
     NoSureRead { process: u32 },
-    /// A `while` that may do a turn without a read.
+    /// A `while` whose block doesn't surely read.
     LoopWithoutRead { line: usize },
     /// A process that reads what was spread, and something else.
     JoinAfterSplit { process: u32 },

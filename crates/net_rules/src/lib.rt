@@ -5,19 +5,20 @@
 //! - `specs/Rules.antt` has each rule of networks as a definition of its own, and the first that is broken.
 //! - `specs/Process.antt` says what a process does over whole streams, step by step: both variables, branches,
 //!   loops, and where it waits. From here on a name is its number (`specs/Numbers.antt`).
-//! - `specs/Kahn.antt` gives a network its streams, after Kahn 1974, and the bound on the steps of its processes.
+//! - `specs/Kahn.antt` gives a network its streams, after Kahn 1974, the bound on the steps of its processes, and the
+//!   bound on orders that the compiler promises.
 //!
 //! # What the layers above use
 //!
-//! [`processes_wait`]: from the rules alone, a process never runs out of fuel, whatever it reads; so the streams are
-//! those of a process that never ends.
+//! [`processes_wait`]: from the rules, and since its numbers are values of the machine, a process never runs out of
+//! fuel, whatever values it reads; so the streams are those of a process that never ends.
 //!
 //! # What it doesn't do
 //!
 //! No call here looks for every rule yet: what stands are the definitions, what is known of them, what one
 //! statement or body reads, writes and changes ([`read_of`], [`written_of`], [`changes`], [`surely_reads`]),
-//! and the one rule that looks at each process by itself ([`sure_reads`]). It knows nothing
-//! of tiles, programs or grids.
+//! and the one rule that looks at each process by itself ([`sure_reads`]). It knows
+//! nothing of programs and grids, and of tiles only how many there are.
 #![tactic(auto)]
 
 mod error;

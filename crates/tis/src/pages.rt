@@ -9,19 +9,35 @@ use tis_cli::Status;
 
 /// How the program is called, and what it ends with.
 pub const HELP: &str = "\
-tis: compiles networks of processes to programs for the TIS-100
+tis: compiles networks of processes to programs for the TIS-100, and runs saves
 
 tis compile NET SAVE   compiles the network in the file NET to a save in the file SAVE
-tis --help             prints this text, as tis compile --help does
+tis order SAVE SPEC SEED ORDERSEED LIMIT
+                       runs the save in the file SAVE over the grid text in the file SPEC, in an
+                       order that is drawn with ORDERSEED, up to LIMIT events, and prints a report
+tis replay SAVE SPEC SEED EVENTS
+                       runs it by the events in the file EVENTS, and prints a report
+tis --help             prints this text, as tis compile --help and the like do
 tis --version          prints the version
 
-It ends with 0 where all was done, 2 where the words are no command, 3 where a text was refused,
-4 where a file isn't there, 5 where a file can't be read or written, 6 where standard output
-failed, and 7 where memory ran out. Where it isn't 0, a line on standard error says why.
+SEED and ORDERSEED are numbers below 2^64, and LIMIT is one up to 10000000. SEED is for
+specifications that are drawn; a grid text is the same for each.
+
+It ends with 0 where all was done, 2 where the words are no command, 3 where a text was refused or
+an event can't happen in its turn, 4 where a file isn't there, 5 where a file can't be read or
+written, 6 where standard output failed, 7 where memory ran out, and 8 where LIMIT events have
+happened and more can. Where it isn't 0, a line on standard error says why.
 ";
 
 /// The program's name and version.
 pub const VERSION: &str = "tis 0.1.0\n";
+
+// Whether a word is that of a command.
+fn is_command(word: &str) -> bool
+    ensures { result ≡ pages.is_command word.now }
+{
+    word == "compile" || word == "order" || word == "replay"
+}
 
 /// What the program prints for these words, where they are no command of the tool.
 pub fn page_of(words: &[String]) -> Option<&'static str>
@@ -30,7 +46,7 @@ pub fn page_of(words: &[String]) -> Option<&'static str>
     match words {
         [word] if word.as_str() == "--help" => Some(HELP),
         [word] if word.as_str() == "--version" => Some(VERSION),
-        [command, word] if command.as_str() == "compile" && word.as_str() == "--help" => Some(HELP),
+        [command, word] if is_command(command.as_str()) && word.as_str() == "--help" => Some(HELP),
         _ => None,
     }
 }

@@ -1,3 +1,6 @@
 pub mod Explained
 pub mod Statuses
 pub mod Examples
+pub mod Putting
+pub mod RunAnswers
+pub mod Fetching

@@ -2,14 +2,14 @@
 use Rattle.std.proofs.Common.{◌≡◌, ℕ, List, [], ◌∷◌, Option, Some, None, refl, sym, ap, subst, ◌∙◌, inl, inr}
 use Rattle.tis_base.specs.Outside.{Texts}
 use Rattle.tis_cli.specs.declared.status.Status.{Status}
-use Rattle.tis_cli.specs.declared.status.Status.TheVariants.{Done, Words, Refused, Missing, StoreFault, SinkFault, NoMemory}
+use Rattle.tis_cli.specs.declared.status.Status.TheVariants.{Done, Words, Refused, Missing, StoreFault, SinkFault, NoMemory, Limit}
 use Rattle.tis_cli.specs.declared.status.Refusal.{Refusal}
 use Rattle.net_column.specs.Net.{Net}
 use Rattle.net_column.specs.Compiled.{compiled}
 use Rattle.tis_save.specs.Writing.{save_text}
-use Rattle.tis_cli.specs.Answers.{Completion, AllDone, Answer, Refuses, Makes, Kept, Put, answer_status}
-use Rattle.tis_cli.specs.Commands.{Command, Compile, command_of, fetched, destination_of, CompilesTo, ComesTo, AnswersAreOne}
-use Rattle.tis_cli.specs.Outcomes.{IsCalled, PutsReport, PutsBytes, texts_under, World, IsOfAnswer, IsAnswered, IsUnlessFailure, Explains}
+use Rattle.tis_cli.specs.Answers.{Completion, AllDone, Limited, Stopped, Answer, Refuses, Makes, Destination, Kept, Put, answer_status}
+use Rattle.tis_cli.specs.Commands.{Command, Compile, Order, Replay, OrdersTo, ReplaysTo, command_of, fetched, destination_of, CompilesTo, ComesTo, AnswersAreOne}
+use Rattle.tis_cli.specs.Outcomes.{IsCalled, PutsBytes, texts_under, World, IsOfAnswer, IsAnswered, IsCutShort, IsUnlessFailure, Explains}
 use Rattle.net_column.proofs.Found.{texts_have_one_net}
 
 same_texts : {a b : List (List ℕ)} {found : Option (List (List ℕ))} → found ≡ Some a → found ≡ Some b → a ≡ b
@@ -34,8 +34,23 @@ compiles_once (text ∷ []) (Makes completion bytes) (Makes another others) firs
 compiles_once [] one other first second = absurd first
 compiles_once (text ∷ more ∷ texts) one other first second = absurd first
 
+orders_once : (seed limit : ℕ) (texts : List (List ℕ)) (one other : Answer) → OrdersTo seed limit texts one → OrdersTo seed limit texts other → one ≡ other
+orders_once seed limit [] one other first second = absurd first
+orders_once seed limit (save ∷ []) one other first second = absurd first
+orders_once seed limit (save ∷ spec ∷ []) one other first second = first ∙ sym second
+orders_once seed limit (save ∷ spec ∷ more ∷ texts) one other first second = absurd first
+
+replays_once : (texts : List (List ℕ)) (one other : Answer) → ReplaysTo texts one → ReplaysTo texts other → one ≡ other
+replays_once [] one other first second = absurd first
+replays_once (save ∷ []) one other first second = absurd first
+replays_once (save ∷ spec ∷ []) one other first second = absurd first
+replays_once (save ∷ spec ∷ events ∷ []) one other first second = first ∙ sym second
+replays_once (save ∷ spec ∷ events ∷ more ∷ texts) one other first second = absurd first
+
 pub answers_are_one : AnswersAreOne
 answers_are_one (Compile net save) texts one other first second = compiles_once texts one other first second
+answers_are_one (Order save spec seed order_seed limit) texts one other first second = orders_once order_seed limit texts one other first second
+answers_are_one (Replay save spec seed events) texts one other first second = replays_once texts one other first second
 
 -- ---- the clauses
 
@@ -53,13 +68,16 @@ never_words command told written status after explains is = subst (λ (s : Statu
 pub some_command : {P : Type 0} {command : Command} {read : Option Command} → read ≡ None → read ≡ Some command → P
 some_command none some = absurd cc
 
--- no command so far puts a report
-pub none_puts : (words : List (List ℕ)) → PutsReport words → ⊥
-none_puts words (Compile net save, is, puts) = let never : Kept save ≡ Put = puts in absurd cc
+-- a sink fails under a command that puts a report
+pub sink_fault_only : (command : Command) (told : Option Texts) (written : Option (List ℕ)) (status : Status) (after : World) → Explains command told written status after → status ≡ SinkFault → destination_of command ≡ Put
+sink_fault_only command told written status after explains failed = (subst (λ (s : Status). Explains command told written s after) failed explains).0
 
--- a command that keeps what it makes is never answered that the sink failed
-pub never_sink_fault : {P : Type 0} (command : Command) (told : Option Texts) (written : Option (List ℕ)) (status : Status) (after : World) → Explains command told written status after → status ≡ SinkFault → P
-never_sink_fault command told written status after explains failed = absurd (subst (λ (s : Status). Explains command told written s after) failed explains)
+-- no sink fails under a command that keeps what it makes
+pub never_put : (net save : List ℕ) (told : Option Texts) (written : Option (List ℕ)) (status : Status) (after : World) → Explains (Compile net save) told written status after → status ≡ SinkFault → ⊥
+never_put net save told written status after explains failed = let never : Kept save ≡ Put = sink_fault_only (Compile net save) told written status after explains failed in absurd cc
+
+pub cut_short : (command : Command) (told : Option Texts) (written : Option (List ℕ)) (status : Status) (after : World) (texts : Texts) → told ≡ Some texts → Explains command told written status after → status ≡ SinkFault → IsCutShort command texts written after.written
+cut_short command told written status after texts is explains failed = (subst (λ (s : Status). Explains command told written s after) failed explains).1 texts is
 
 pub missing_only : (command : Command) (told : Option Texts) (written : Option (List ℕ)) (status : Status) (after : World) (texts : Texts) → told ≡ Some texts → Explains command told written status after →
     status ≡ Missing → texts_under texts (fetched command) ≡ None
@@ -72,21 +90,34 @@ no_answer status never of = never of.0 of.1
 missing_is_none : (answer : Answer) → Missing ≡ answer_status answer → ⊥
 missing_is_none (Refuses refusal) is = cc
 missing_is_none (Makes AllDone bytes) is = cc
+missing_is_none (Makes (Limited done) bytes) is = cc
+missing_is_none (Makes (Stopped index) bytes) is = cc
 
 store_fault_is_none : (answer : Answer) → StoreFault ≡ answer_status answer → ⊥
 store_fault_is_none (Refuses refusal) is = cc
 store_fault_is_none (Makes AllDone bytes) is = cc
+store_fault_is_none (Makes (Limited done) bytes) is = cc
+store_fault_is_none (Makes (Stopped index) bytes) is = cc
+
+sink_fault_is_none : (answer : Answer) → SinkFault ≡ answer_status answer → ⊥
+sink_fault_is_none (Refuses refusal) is = cc
+sink_fault_is_none (Makes AllDone bytes) is = cc
+sink_fault_is_none (Makes (Limited done) bytes) is = cc
+sink_fault_is_none (Makes (Stopped index) bytes) is = cc
 
 no_memory_is_none : (answer : Answer) → NoMemory ≡ answer_status answer → ⊥
 no_memory_is_none (Refuses refusal) is = cc
 no_memory_is_none (Makes AllDone bytes) is = cc
+no_memory_is_none (Makes (Limited done) bytes) is = cc
+no_memory_is_none (Makes (Stopped index) bytes) is = cc
 
 pub answered : (command : Command) (told : Option Texts) (written : Option (List ℕ)) (status : Status) (after : World) (texts : Texts) → told ≡ Some texts → Explains command told written status after →
     IsOfAnswer status → IsAnswered command texts written status after
 answered command told written Done after texts is explains of = explains texts is
 answered command told written (Refused refusal) after texts is explains of = explains texts is
 answered command told written Words after texts is explains of = absurd explains
-answered command told written SinkFault after texts is explains of = absurd explains
+answered command told written SinkFault after texts is explains of = absurd (no_answer SinkFault sink_fault_is_none of)
+answered command told written (Limit done) after texts is explains of = explains texts is
 answered command told written Missing after texts is explains of = absurd (no_answer Missing missing_is_none of)
 answered command told written StoreFault after texts is explains of = absurd (no_answer StoreFault store_fault_is_none of)
 answered command told written NoMemory after texts is explains of = absurd (no_answer NoMemory no_memory_is_none of)
@@ -98,7 +129,8 @@ missing_where command told written (Refused refusal) after texts is explains non
 missing_where command told written Missing after texts is explains none = inl refl
 missing_where command told written StoreFault after texts is explains none = inr tt
 missing_where command told written NoMemory after texts is explains none = inr tt
-missing_where command told written SinkFault after texts is explains none = absurd explains
+missing_where command told written SinkFault after texts is explains none = no_texts none (explains.1 texts is).stand
+missing_where command told written (Limit done) after texts is explains none = no_texts none (explains texts is).stand
 missing_where command told written Words after texts is explains none = absurd explains
 
 -- the answer that was given is the one that the texts come to
@@ -114,5 +146,9 @@ complete command told written (Refused refusal) after texts found answer is expl
 complete command told written Missing after texts found answer is explains stand comes = no_texts (explains texts is) stand
 complete command told written StoreFault after texts found answer is explains stand comes = inr tt
 complete command told written NoMemory after texts found answer is explains stand comes = inr tt
-complete command told written SinkFault after texts found answer is explains stand comes = absurd explains
+complete command told written (Limit done) after texts found answer is explains stand comes = inl (same_status command texts written (Limit done) after found answer (explains texts is) stand comes)
+complete command told written SinkFault after texts found answer is explains stand comes =
+    let cut = explains.1 texts is in
+    let same : Makes cut.completion cut.report ≡ answer = answers_are_one command found (Makes cut.completion cut.report) answer (subst (λ (f : List (List ℕ)). ComesTo command f (Makes cut.completion cut.report)) (same_texts cut.stand stand) cut.comes) comes in
+    inr (subst (λ (a : Answer). PutsBytes (destination_of command) a) same (subst (λ (d : Destination). PutsBytes d (Makes cut.completion cut.report)) (sym explains.0) tt))
 complete command told written Words after texts found answer is explains stand comes = absurd explains

@@ -1,12 +1,15 @@
 -- What the work of a command comes to, and where what it makes goes.
 use Rattle.std.specs.Prelude.{ℕ, List}
 use Rattle.tis_cli.specs.declared.status.Status.{Status}
-use Rattle.tis_cli.specs.declared.status.Status.TheVariants.{Done, Refused}
+use Rattle.tis_cli.specs.declared.status.Status.TheVariants.{Done, Refused, Limit}
 use Rattle.tis_cli.specs.declared.status.Refusal.{Refusal}
+use Rattle.tis_cli.specs.declared.status.Refusal.TheVariants.{NotEnabled}
 
--- how work comes to its end, with bytes made; so far it is always done whole
+-- how work comes to its end, with bytes made: it is done whole, or it stopped after as many events as were allowed, or at an event of an order that can't happen in its turn, by its index from 0 on
 pub data Completion : Type 0 where
   AllDone : Completion
+  Limited : (done : ℕ) → Completion
+  Stopped : (index : ℕ) → Completion
 
 -- what a command comes to where the outside doesn't fail and memory is there: a refusal before anything is made, or the end of its work and the bytes that it makes
 pub data Answer : Type 0 where
@@ -21,6 +24,8 @@ pub data Destination : Type 0 where
 -- the status of work that came to its end; a work that stops with a report has the status that says so, which may be a refusal
 abbrev pub completion_status : Completion → Status
 completion_status AllDone = Done
+completion_status (Limited done) = Limit done
+completion_status (Stopped index) = Refused (NotEnabled index)
 
 -- the status of an answer
 abbrev pub answer_status : Answer → Status

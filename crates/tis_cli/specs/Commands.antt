@@ -1,10 +1,12 @@
 -- What each command is: its words, what it fetches, where what it makes goes, what it comes to, and what is promised of that. A new command is a row in each of these definitions.
-use Rattle.std.specs.Prelude.{◌≡◌, ℕ, List, [], ◌∷◌, Option, Some, None, Ok, codes, if◌then◌else◌}
+use Rattle.std.specs.Prelude.{◌≡◌, ℕ, List, [], ◌∷◌, Option, Some, None, option_map, option_and_then, Ok, codes, if◌then◌else◌}
 use Rattle.std.specs.Str.{bytes_eq}
 use Rattle.tis_cli.specs.declared.command.Command as held
 use Rattle.tis_cli.specs.declared.command.Command.TheVariants as held_as
 use Rattle.tis_cli.specs.declared.status.Refusal.TheVariants.{NotThisForm}
-use Rattle.tis_cli.specs.Answers.{Answer, Refuses, Makes, AllDone, Destination, Kept}
+use Rattle.tis_cli.specs.Answers.{Answer, Refuses, Makes, AllDone, Destination, Kept, Put}
+use Rattle.tis_words.specs.Numerals.{number_of}
+use Rattle.tis_cli.specs.Runs.{order_answer, replay_answer}
 use Rattle.net_column.specs.Net.{Net}
 use Rattle.net_column.specs.Column.{NetOf}
 use Rattle.net_column.specs.Compiled.{compiled}
@@ -16,15 +18,38 @@ use Rattle.tis_save.specs.Reading.{save_of}
 pub data Command : Type 0 where
   -- compiles the network under one name, and keeps its save under another
   Compile : (net : List ℕ) → (save : List ℕ) → Command
+  -- runs a save over a specification, in an order that is drawn with a seed, up to so many events; the first seed is the specification's
+  Order : (save : List ℕ) → (spec : List ℕ) → (seed : ℕ) → (order_seed : ℕ) → (limit : ℕ) → Command
+  -- runs a save over a specification by the events of a text
+  Replay : (save : List ℕ) → (spec : List ℕ) → (seed : ℕ) → (events : List ℕ) → Command
+
+-- a word that is a seed: a number below 2^64
+abbrev pub seed_of : List ℕ → Option ℕ
+seed_of word = number_of 18446744073709551615 word
+
+-- a word that says how many events may happen
+abbrev pub limit_of : List ℕ → Option ℕ
+limit_of word = number_of 10000000 word
+
+-- an order of these numbers, where all of them are there
+abbrev pub order_with : List ℕ → List ℕ → Option ℕ → Option ℕ → Option ℕ → Option Command
+order_with save spec seed order_seed limit = option_and_then (λ s. option_and_then (λ o. option_map (λ l. Order save spec s o l) limit) order_seed) seed
+
+abbrev pub replay_with : List ℕ → List ℕ → Option ℕ → List ℕ → Option Command
+replay_with save spec seed events = option_map (λ s. Replay save spec s events) seed
 
 -- the command that these words are
 abbrev pub command_of : List (List ℕ) → Option Command
 command_of (word ∷ net ∷ save ∷ []) = if bytes_eq word (codes "compile") then Some (Compile net save) else None
+command_of (word ∷ save ∷ spec ∷ seed ∷ events ∷ []) = if bytes_eq word (codes "replay") then replay_with save spec (seed_of seed) events else None
+command_of (word ∷ save ∷ spec ∷ seed ∷ order_seed ∷ limit ∷ []) = if bytes_eq word (codes "order") then order_with save spec (seed_of seed) (seed_of order_seed) (limit_of limit) else None
 command_of _ = None
 
 -- what contracts see of a command that the program holds
 abbrev pub command_view : held.Command → Command
 command_view (held_as.Compile net save) = Compile net.now save.now
+command_view (held_as.Order save spec seed order_seed limit) = Order save.now spec.now seed order_seed limit
+command_view (held_as.Replay save spec seed events) = Replay save.now spec.now seed events.now
 
 -- ---- compile
 
@@ -46,23 +71,48 @@ pub record IsCompiled (texts : List (List ℕ)) (bytes : List ℕ) : Type 0 wher
   pub reads_back : save_of bytes net.tiles ≡ Ok (compiled net)
   pub carries : Carries (compiled net) net
 
+-- ---- order and replay
+
+-- two texts are fetched
+abbrev pub OrdersTo : ℕ → ℕ → List (List ℕ) → Answer → Type 0
+OrdersTo seed limit (save ∷ spec ∷ []) answer = answer ≡ order_answer save spec seed limit
+OrdersTo seed limit [] answer = ⊥
+OrdersTo seed limit (text ∷ []) answer = ⊥
+OrdersTo seed limit (save ∷ spec ∷ other ∷ texts) answer = ⊥
+
+-- three texts are fetched
+abbrev pub ReplaysTo : List (List ℕ) → Answer → Type 0
+ReplaysTo (save ∷ spec ∷ events ∷ []) answer = answer ≡ replay_answer save spec events
+ReplaysTo [] answer = ⊥
+ReplaysTo (text ∷ []) answer = ⊥
+ReplaysTo (save ∷ spec ∷ []) answer = ⊥
+ReplaysTo (save ∷ spec ∷ events ∷ other ∷ texts) answer = ⊥
+
 -- ---- every command
 
 -- the names under which it fetches texts, in order
 abbrev pub fetched : Command → List (List ℕ)
 fetched (Compile net save) = net ∷ []
+fetched (Order save spec seed order_seed limit) = save ∷ spec ∷ []
+fetched (Replay save spec seed events) = save ∷ spec ∷ events ∷ []
 
 -- where what it makes goes
 abbrev pub destination_of : Command → Destination
 destination_of (Compile net save) = Kept save
+destination_of (Order save spec seed order_seed limit) = Put
+destination_of (Replay save spec seed events) = Put
 
 -- what it comes to over the texts that it fetched, where nothing fails: the first refusal that the texts and then the work meet, or how the work ends and what it makes
 abbrev pub ComesTo : Command → List (List ℕ) → Answer → Type 0
 ComesTo (Compile net save) texts answer = CompilesTo texts answer
+ComesTo (Order save spec seed order_seed limit) texts answer = OrdersTo order_seed limit texts answer
+ComesTo (Replay save spec seed events) texts answer = ReplaysTo texts answer
 
--- what is promised of the bytes that it made, where all is done
+-- what is promised of the bytes that it made, where all is done; of a report nothing more than what it comes to
 abbrev pub IsPromised : Command → List (List ℕ) → List ℕ → Type 0
 IsPromised (Compile net save) texts bytes = IsCompiled texts bytes
+IsPromised (Order save spec seed order_seed limit) texts bytes = Unit {0}
+IsPromised (Replay save spec seed events) texts bytes = Unit {0}
 
 -- ---- laws
 

@@ -1,4 +1,6 @@
 pub mod Answers
+pub mod Runs
+pub mod Ends
 pub mod Commands
 pub mod Outcomes
 pub mod Statuses

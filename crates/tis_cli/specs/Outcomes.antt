@@ -2,9 +2,11 @@
 use Rattle.std.specs.Prelude.{◌≡◌, ◌⊎◌, ◌++◌, List, [], ◌∷◌, ℕ, Option, Some, None, Result, Ok, Err, map, option_map, String, string_bytes}
 use Rattle.std.specs.declared.alloc.Global.{Global}
 use Rattle.tis_base.specs.Outside.{Texts, text_at, with_text, WrotePrefix}
+use Rattle.tis_cli.specs.declared.status.Refusal.{Refusal}
 use Rattle.tis_cli.specs.declared.status.Status.{Status}
-use Rattle.tis_cli.specs.declared.status.Status.TheVariants.{Done, Words, Refused, Missing, StoreFault, SinkFault, NoMemory}
-use Rattle.tis_cli.specs.Answers.{Completion, AllDone, Answer, Refuses, Makes, Destination, Kept, Put, completion_status, answer_status}
+use Rattle.tis_cli.specs.declared.status.Status.TheVariants.{Done, Words, Refused, Missing, StoreFault, SinkFault, NoMemory, Limit}
+use Rattle.tis_cli.specs.Answers.{Completion, AllDone, Limited, Stopped, Answer, Refuses, Makes, Destination, Kept, Put, completion_status, answer_status}
+use Rattle.tis_cli.specs.declared.runs.Run.{Run}
 use Rattle.tis_cli.specs.Commands.{Command, command_of, fetched, destination_of, ComesTo, IsPromised}
 
 -- the words, each as its bytes
@@ -47,6 +49,8 @@ Arrives Put (Makes completion bytes) texts written after = (after.texts ≡ Some
 abbrev pub IfAllDone : (List ℕ → Type 0) → Answer → Type 0
 IfAllDone promise (Refuses refusal) = Unit {0}
 IfAllDone promise (Makes AllDone bytes) = promise bytes
+IfAllDone promise (Makes (Limited done) bytes) = Unit {0}
+IfAllDone promise (Makes (Stopped index) bytes) = Unit {0}
 
 -- the status is that of an answer: of a refusal, or of work that came to its end
 abbrev pub IsOfAnswer : Status → Type 0
@@ -92,6 +96,7 @@ IsFailure puts Done = ⊥
 IsFailure puts Words = ⊥
 IsFailure puts (Refused refusal) = ⊥
 IsFailure puts Missing = ⊥
+IsFailure puts (Limit done) = ⊥
 
 -- this status, unless the outside failed or memory ran out
 abbrev pub IsUnlessFailure : Type 0 → Status → Status → Type 0
@@ -104,13 +109,74 @@ abbrev pub status_after : Result (Unit {0}) Status → Status
 status_after (Ok done) = Done
 status_after (Err status) = status
 
--- what the status says of the texts, where the store tells them, for a command that keeps what it makes
+-- what the status says of the texts, where the store tells them
 abbrev pub Explains : Command → Option Texts → Option (List ℕ) → Status → World → Type 0
 Explains command told written Done after = (texts : Texts) → told ≡ Some texts → IsAnswered command texts written Done after
+Explains command told written (Limit done) after = (texts : Texts) → told ≡ Some texts → IsAnswered command texts written (Limit done) after
 Explains command told written (Refused refusal) after = (texts : Texts) → told ≡ Some texts → IsAnswered command texts written (Refused refusal) after
 Explains command told written Missing after = (texts : Texts) → told ≡ Some texts → texts_under texts (fetched command) ≡ None
 Explains command told written StoreFault after = Unit {0}
 Explains command told written NoMemory after = Unit {0}
--- it puts nothing, and it is never answered that its words are no command
-Explains command told written SinkFault after = ⊥
+-- only a command that puts a report finds a sink that fails
+Explains command told written SinkFault after = (destination_of command ≡ Put) × ((texts : Texts) → told ≡ Some texts → IsCutShort command texts written after.written)
+-- it is never answered that its words are no command
 Explains command told written Words after = ⊥
+
+-- ---- commands that put a report
+
+-- the texts that were fetched for a command, where the store tells its texts
+abbrev pub AreFetched : Command → Option Texts → List (List ℕ) → Type 0
+AreFetched command told found = (texts : Texts) → told ≡ Some texts → texts_under texts (fetched command) ≡ Some found
+
+-- the texts come to this report, and its status is that of the end
+pub record IsRun (command : Command) (told : Option Texts) (run : Run) : Type 0 where
+  pub found : List (List ℕ)
+  pub completion : Completion
+  pub are : AreFetched command told found
+  pub comes : ComesTo command found (Makes completion run.report.items)
+  pub status_is : run.status ≡ completion_status completion
+
+-- the texts come to this refusal
+pub record IsRefusal (command : Command) (told : Option Texts) (refusal : Refusal) : Type 0 where
+  pub found : List (List ℕ)
+  pub are : AreFetched command told found
+  pub comes : ComesTo command found (Refuses refusal)
+
+-- why a command has no report: a name isn't there, a text is refused, the store failed, or memory ran out
+abbrev pub HasNoRun : Command → Option Texts → Status → Type 0
+HasNoRun command told (Refused refusal) = IsRefusal command told refusal
+HasNoRun command told Missing = (texts : Texts) → told ≡ Some texts → texts_under texts (fetched command) ≡ None
+HasNoRun command told StoreFault = Unit {0}
+HasNoRun command told NoMemory = Unit {0}
+HasNoRun command told Done = ⊥
+HasNoRun command told Words = ⊥
+HasNoRun command told SinkFault = ⊥
+HasNoRun command told (Limit done) = ⊥
+
+-- the report of a command, or why it has none
+abbrev pub Runs : Command → Option Texts → Result Run Status → Type 0
+Runs command told (Ok run) = IsRun command told run
+Runs command told (Err status) = HasNoRun command told status
+
+-- a report was put, and its status is answered; or the sink took a front of it, or memory ran out
+abbrev pub IsPut : Run → Option (List ℕ) → Status → Option (List ℕ) → Type 0
+IsPut run old status new =
+    ((status ≡ run.status) × (new ≡ option_map (λ before. before ++ run.report.items) old))
+    ⊎ (((status ≡ SinkFault) × WrotePrefix old run.report.items new) ⊎ ((status ≡ NoMemory) × (new ≡ old)))
+
+-- a run has the status of an end, and a status without a report is one that can stand before it
+abbrev pub AreEnds : Result Run Status → Type 0
+AreEnds (Ok run) = IsOfWork run.status
+AreEnds (Err (Refused refusal)) = Unit {0}
+AreEnds (Err Missing) = Unit {0}
+AreEnds (Err StoreFault) = Unit {0}
+AreEnds (Err NoMemory) = Unit {0}
+AreEnds (Err Done) = ⊥
+AreEnds (Err Words) = ⊥
+AreEnds (Err SinkFault) = ⊥
+AreEnds (Err (Limit done)) = ⊥
+
+-- the report was put, or the status without one is answered, and nothing was written
+abbrev pub Finishes : Result Run Status → Option (List ℕ) → Status → Option (List ℕ) → Type 0
+Finishes (Ok run) old status new = IsPut run old status new
+Finishes (Err before) old status new = (status ≡ before) × (new ≡ old)

@@ -1,13 +1,23 @@
 -- The number and the line of each status, and the status of each failure.
-use Rattle.std.specs.Prelude.{ℕ, List, [], ◌++◌, codes}
+use Rattle.std.specs.Prelude.{ℕ, List, [], ◌∷◌, ◌++◌, codes, decimal}
+use Rattle.tis_base.specs.declared.sink.SinkError.{SinkError}
+use Rattle.tis_base.specs.declared.sink.SinkError.TheVariants as sink
+use Rattle.tis_asm.specs.declared.error.AsmError.{AsmError}
+use Rattle.tis_asm.specs.declared.error.AsmError.TheVariants as asm
+use Rattle.tis_save.specs.declared.error.SaveError.{SaveError}
+use Rattle.tis_save.specs.declared.error.SaveError.TheVariants as saved
+use Rattle.tis_grid_text.specs.declared.error.GridTextError.{GridTextError}
+use Rattle.tis_grid_text.specs.declared.error.GridTextError.TheVariants as grid
+use Rattle.tis_grid_text.specs.declared.error.EventsError.{EventsError}
+use Rattle.tis_grid_text.specs.declared.error.EventsError.TheVariants as events
 use Rattle.tis_base.specs.declared.store.StoreError.{StoreError}
 use Rattle.tis_base.specs.declared.store.StoreError.TheVariants as fault
 use Rattle.net_column.specs.declared.tree.NetError.{NetError}
 use Rattle.net_column.specs.declared.tree.NetError.TheVariants as unread
 use Rattle.tis_cli.specs.declared.status.Status.{Status}
-use Rattle.tis_cli.specs.declared.status.Status.TheVariants.{Done, Words, Refused, Missing, StoreFault, SinkFault, NoMemory}
+use Rattle.tis_cli.specs.declared.status.Status.TheVariants.{Done, Words, Refused, Missing, StoreFault, SinkFault, NoMemory, Limit}
 use Rattle.tis_cli.specs.declared.status.Refusal.{Refusal}
-use Rattle.tis_cli.specs.declared.status.Refusal.TheVariants.{NotThisForm}
+use Rattle.tis_cli.specs.declared.status.Refusal.TheVariants.{NotThisForm, Save, Grid, Events, NotEnabled}
 
 -- the number that the program ends with
 abbrev pub number_of : Status → ℕ
@@ -18,9 +28,40 @@ number_of Missing = 4
 number_of StoreFault = 5
 number_of SinkFault = 6
 number_of NoMemory = 7
+number_of (Limit done) = 8
 
+-- a name and the number of a line, or another number, behind a blank
+abbrev pub with_number : List ℕ → ℕ → List ℕ
+with_number name number = name ++ decimal number
+
+abbrev pub asm_words : AsmError → List ℕ
+asm_words asm.TooManyLines = codes "TooManyLines"
+asm_words (asm.LongLine line) = with_number (codes "LongLine ") line
+asm_words (asm.BadLine line) = with_number (codes "BadLine ") line
+asm_words (asm.RepeatedLabel line) = with_number (codes "RepeatedLabel ") line
+asm_words (asm.UnknownLabel line) = with_number (codes "UnknownLabel ") line
+asm_words asm.NoMemory = codes "NoMemory"
+
+abbrev pub save_words : SaveError → List ℕ
+save_words (saved.BadHead line) = with_number (codes "BadHead ") line
+save_words (saved.UnknownBlock line) = with_number (codes "UnknownBlock ") line
+save_words (saved.RepeatedBlock line) = with_number (codes "RepeatedBlock ") line
+save_words (saved.StrayCode line) = with_number (codes "StrayCode ") line
+save_words (saved.Asm block error) = with_number (codes "Asm ") block ++ 32 ∷ asm_words error
+save_words saved.NoMemory = codes "NoMemory"
+
+abbrev pub grid_words : GridTextError → List ℕ
+grid_words (grid.BadLine line) = with_number (codes "BadLine ") line
+grid_words (grid.SamePlace line) = with_number (codes "SamePlace ") line
+grid_words grid.NoMemory = codes "NoMemory"
+
+-- the name of a refusal, and its parts in order
 abbrev pub refusal_words : Refusal → List ℕ
 refusal_words NotThisForm = codes "NotThisForm"
+refusal_words (Save error) = codes "Save " ++ save_words error
+refusal_words (Grid error) = codes "Grid " ++ grid_words error
+refusal_words (Events line) = with_number (codes "Events ") line
+refusal_words (NotEnabled index) = with_number (codes "NotEnabled ") index
 
 -- the line that says how the program ended, without its LF
 abbrev pub status_line : Status → List ℕ
@@ -31,6 +72,7 @@ status_line Missing = codes "missing"
 status_line StoreFault = codes "store fault"
 status_line SinkFault = codes "sink fault"
 status_line NoMemory = codes "no memory"
+status_line (Limit done) = with_number (codes "limit ") done
 
 -- the status that a fault of the store ends a command with
 abbrev pub store_status : StoreError → Status
@@ -42,3 +84,27 @@ store_status fault.NoMemory = NoMemory
 abbrev pub net_status : NetError → Status
 net_status unread.NotThisForm = Refused NotThisForm
 net_status unread.NoMemory = NoMemory
+
+-- the status that an error of a save ends a command with
+abbrev pub save_status : SaveError → Status
+save_status (saved.BadHead line) = Refused (Save (saved.BadHead line))
+save_status (saved.UnknownBlock line) = Refused (Save (saved.UnknownBlock line))
+save_status (saved.RepeatedBlock line) = Refused (Save (saved.RepeatedBlock line))
+save_status (saved.StrayCode line) = Refused (Save (saved.StrayCode line))
+save_status (saved.Asm block error) = Refused (Save (saved.Asm block error))
+save_status saved.NoMemory = NoMemory
+
+-- and one of a grid text, or of the text of an order
+abbrev pub grid_status : GridTextError → Status
+grid_status (grid.BadLine line) = Refused (Grid (grid.BadLine line))
+grid_status (grid.SamePlace line) = Refused (Grid (grid.SamePlace line))
+grid_status grid.NoMemory = NoMemory
+
+abbrev pub events_status : EventsError → Status
+events_status (events.Bad line) = Refused (Events line)
+events_status events.NoMemory = NoMemory
+
+-- and a fault of the sink
+abbrev pub sink_status : SinkError → Status
+sink_status sink.Failed = SinkFault
+sink_status sink.NoMemory = NoMemory

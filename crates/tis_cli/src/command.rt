@@ -1,13 +1,83 @@
 //! The words of the command line.
-ghost use Rattle.std.specs.Prelude.{◌≡◌, option_map};
-ghost use Rattle.tis_cli.specs.Commands.{command_of, command_view};
+ghost use Rattle.std.specs.Prelude.{◌≡◌, option_map, string_bytes};
+ghost use Rattle.tis_cli.specs.Commands.{command_of, command_view, seed_of as seed_in, limit_of as limit_in, order_with, replay_with};
 ghost use Rattle.tis_cli.specs.Outcomes.{words_of};
+
+use tis_words::number_of;
 
 /// A command with its words.
 #[derive(Clone, Copy, Debug)]
 pub enum Command<'a> {
     /// Compiles the network under one name to a save under another.
-    Compile { net: &'a str, save: &'a str },
+    Compile {
+        net: &'a str,
+        save: &'a str,
+    },
+    /// Runs a save over a specification in a drawn order.
+    Order {
+        save: &'a str,
+        spec: &'a str,
+        seed: u64,
+        order_seed: u64,
+        limit: u64,
+    },
+    /// Runs a save over a specification by the events of a text.
+    Replay {
+        save: &'a str,
+        spec: &'a str,
+        seed: u64,
+        events: &'a str,
+    },
+}
+
+// The number of a word that is a seed.
+fn seed_of(word: &String) -> Option<u64>
+    ensures { result ≡ seed_in (string_bytes word.now) }
+{
+    number_of(word.as_bytes(), u64::MAX)
+}
+
+// The number of a word that says how many events may happen.
+fn limit_of(word: &String) -> Option<u64>
+    ensures { result ≡ limit_in (string_bytes word.now) }
+{
+    number_of(word.as_bytes(), 10_000_000)
+}
+
+// The command `order` with these words.
+fn order<'a>(
+    save: &'a String,
+    spec: &'a String,
+    seed: &String,
+    order_seed: &String,
+    limit: &String,
+) -> Option<Command<'a>>
+    ensures { order_with (string_bytes save.now) (string_bytes spec.now) (seed_in (string_bytes seed.now)) (seed_in (string_bytes order_seed.now)) (limit_in (string_bytes limit.now)) ≡ option_map command_view result }
+{
+    Some(Command::Order {
+        save: save.as_str(),
+        spec: spec.as_str(),
+        seed: seed_of(seed)?,
+        order_seed: seed_of(order_seed)?,
+        limit: limit_of(limit)?,
+    })
+}
+
+// The command `replay` with these words.
+fn replay<'a>(
+    save: &'a String,
+    spec: &'a String,
+    seed: &String,
+    events: &'a String,
+) -> Option<Command<'a>>
+    ensures { replay_with (string_bytes save.now) (string_bytes spec.now) (seed_in (string_bytes seed.now)) (string_bytes events.now) ≡ option_map command_view result }
+{
+    Some(Command::Replay {
+        save: save.as_str(),
+        spec: spec.as_str(),
+        seed: seed_of(seed)?,
+        events: events.as_str(),
+    })
 }
 
 /// The command that these words are, or None where they are none.
@@ -19,6 +89,12 @@ pub fn read_words<'a>(words: &'a [String]) -> Option<Command<'a>>
             net: net.as_str(),
             save: save.as_str(),
         }),
+        [word, save, spec, seed, events] if word.as_str() == "replay" => {
+            replay(save, spec, seed, events)
+        }
+        [word, save, spec, seed, order_seed, limit] if word.as_str() == "order" => {
+            order(save, spec, seed, order_seed, limit)
+        }
         _ => None,
     }
 }

@@ -28,7 +28,8 @@
 //! # What it costs
 //!
 //! A `compile` goes over its text from left to right once, and holds the text, the network, its programs and
-//! the save in memory.
+//! the save in memory. An `order` or a `replay` holds its texts, the grid with two bytes for each value of an
+//! output, and the report.
 //!
 //! # What it doesn't do
 //!
@@ -36,13 +37,18 @@
 #![tactic(auto)]
 
 mod command;
+mod describing;
 mod laws;
 mod run;
+mod runs;
 mod status;
 
+pub use describing::describe;
 pub use laws::answers_are_one;
 pub use run::tool;
-pub use status::{Refusal, Status, describe};
+pub use status::{Refusal, Status};
 
+#[cfg(test)]
+mod run_tests;
 #[cfg(test)]
 mod tests;

@@ -1,11 +1,12 @@
 //! The one call that does all that the program does.
-ghost use Rattle.std.specs.Prelude.{◌≡◌, ◌≢◌, ◌↔◌, ◌⊎◌, ℕ, List, Option, Some, None, OnErr, IsErrOf};
+ghost use Rattle.std.specs.Prelude.{◌≡◌, ◌≢◌, ◌↔◌, ◌⊎◌, ℕ, List, Option, Some, None, OnOk, OnErr, IfErr, IsErrOf};
 ghost use Rattle.tis_base.specs.Outside.{Texts, Rose};
-ghost use Rattle.tis_cli.specs.Answers.{Answer, answer_status};
-ghost use Rattle.tis_cli.specs.Commands.{Command as SomeCommand, Compile, command_of, command_view, fetched, destination_of, ComesTo};
-ghost use Rattle.tis_cli.specs.Outcomes.{words_of, IsCalled, PutsReport, PutsBytes, texts_under, IsOfAnswer, IsOfWork, IsAnswered, IsCutShort, IsUnlessFailure, status_after, Explains};
+ghost use Rattle.tis_cli.specs.Answers.{Answer, Put, answer_status};
+ghost use Rattle.tis_cli.specs.Commands.{Command as SomeCommand, Compile, Order, Replay, command_of, command_view, fetched, destination_of, ComesTo};
+ghost use Rattle.tis_cli.specs.Outcomes.{words_of, IsCalled, PutsReport, PutsBytes, texts_under, IsOfAnswer, IsOfWork, IsAnswered, IsCutShort, IsUnlessFailure, status_after, Explains, Runs, IsPut, AreEnds, Finishes};
 
 use crate::command::{Command, read_words};
+use crate::runs::{Run, order, replay};
 use crate::status::Status;
 use net_column::{emit, read_net};
 use std::alloc::Global;
@@ -39,24 +40,119 @@ fn status_of(outcome: Result<(), Status>) -> Status
     }
 }
 
+// What a drawn order over the texts under these names comes to.
+fn work_of_order<S: Store>(
+    alloc: Global,
+    save: &str,
+    spec: &str,
+    order_seed: u64,
+    limit: u64,
+    store: &mut S,
+) -> Result<Run, Status>
+    ensures runs { (seed : ℕ) → Runs (Order save.now spec.now seed order_seed limit) (S.texts store.old) result }
+    ensures texts_stay { S.texts store.new ≡ S.texts store.old }
+    ensures missing_counted { IsErrOf result Status.Missing → Rose (S.misses store.old) (S.misses store.new) }
+    ensures fault_counted { IsErrOf result Status.StoreFault → Rose (S.faults store.old) (S.faults store.new) }
+    ensures misses_stay { result ≢ Err Status.Missing → S.misses store.new ≡ S.misses store.old }
+    ensures faults_stay { result ≢ Err Status.StoreFault → S.faults store.new ≡ S.faults store.old }
+{
+    let saved = store.fetch(alloc, save)?;
+    let spec = store.fetch(alloc, spec)?;
+    order(alloc, &saved, &spec, order_seed, limit)
+}
+
+// What the order under one name comes to over the texts under the others.
+fn work_of_replay<S: Store>(
+    alloc: Global,
+    save: &str,
+    spec: &str,
+    events: &str,
+    store: &mut S,
+) -> Result<Run, Status>
+    ensures runs { (seed : ℕ) → Runs (Replay save.now spec.now seed events.now) (S.texts store.old) result }
+    ensures texts_stay { S.texts store.new ≡ S.texts store.old }
+    ensures missing_counted { IsErrOf result Status.Missing → Rose (S.misses store.old) (S.misses store.new) }
+    ensures fault_counted { IsErrOf result Status.StoreFault → Rose (S.faults store.old) (S.faults store.new) }
+    ensures misses_stay { result ≢ Err Status.Missing → S.misses store.new ≡ S.misses store.old }
+    ensures faults_stay { result ≢ Err Status.StoreFault → S.faults store.new ≡ S.faults store.old }
+{
+    let saved = store.fetch(alloc, save)?;
+    let spec = store.fetch(alloc, spec)?;
+    let events = store.fetch(alloc, events)?;
+    replay(alloc, &saved, &spec, &events)
+}
+
+// Puts a report, and says how the command ended.
+fn put_report<K: Sink>(run: &Run, out: &mut K) -> Status
+    requires { IsOfWork run.now.status }
+    ensures put { IsPut run.now (K.written out.old) result (K.written out.new) }
+    ensures sink_fault_counted { result ≡ Status.SinkFault → Rose (K.faults out.old) (K.faults out.new) }
+    ensures sink_faults_stay { result ≢ Status.SinkFault → K.faults out.new ≡ K.faults out.old }
+{
+    match out.put(&run.report) {
+        Ok(()) => run.status,
+        Err(error) => Status::from(error),
+    }
+}
+
+// Puts the report of a command that has one, and says how the command ended.
+fn finish<K: Sink>(work: Result<Run, Status>, out: &mut K) -> Status
+    requires { AreEnds work }
+    ensures finishes { Finishes work (K.written out.old) result (K.written out.new) }
+    ensures early { IfErr work (λ status. result ≡ status) }
+    ensures late { OnOk work ((result ≢ Status.Missing) × (result ≢ Status.StoreFault)) }
+    ensures sink_fault_counted { result ≡ Status.SinkFault → Rose (K.faults out.old) (K.faults out.new) }
+    ensures sink_faults_stay { result ≢ Status.SinkFault → K.faults out.new ≡ K.faults out.old }
+    ensures unreported { (IsOfWork result → ⊥) → result ≢ Status.SinkFault → result ≢ Status.NoMemory → out.new ≡ out.old }
+    ensures unwritten { result ≡ Status.NoMemory → K.written out.new ≡ K.written out.old }
+{
+    match work {
+        Ok(run) => put_report(&run, out),
+        Err(early) => early,
+    }
+}
+
 // Does what a command says.
-fn perform<S: Store>(alloc: Global, command: Command, store: &mut S) -> Status
-    ensures explains { (written : Option (List ℕ)) → Explains (command_view command.entry) (S.texts store.old) written result (record { texts = S.texts store.new; written = written }) }
+fn perform<S: Store, K: Sink>(alloc: Global, command: Command, store: &mut S, out: &mut K) -> Status
+    ensures explains { Explains (command_view command.entry) (S.texts store.old) (K.written out.old) result (record { texts = S.texts store.new; written = K.written out.new }) }
     ensures texts_stay { result ≢ Status.Done → S.texts store.new ≡ S.texts store.old }
     ensures missing_counted { result ≡ Status.Missing → Rose (S.misses store.old) (S.misses store.new) }
     ensures fault_counted { result ≡ Status.StoreFault → Rose (S.faults store.old) (S.faults store.new) }
     ensures misses_stay { result ≢ Status.Missing → S.misses store.new ≡ S.misses store.old }
     ensures faults_stay { result ≢ Status.StoreFault → S.faults store.new ≡ S.faults store.old }
+    ensures sink_fault_counted { result ≡ Status.SinkFault → Rose (K.faults out.old) (K.faults out.new) }
+    ensures sink_faults_stay { result ≢ Status.SinkFault → K.faults out.new ≡ K.faults out.old }
+    ensures unreported { (IsOfWork result → ⊥) → result ≢ Status.SinkFault → result ≢ Status.NoMemory → out.new ≡ out.old }
+    ensures unwritten { result ≡ Status.NoMemory → K.written out.new ≡ K.written out.old }
+    ensures sink_stays { (destination_of (command_view command.entry) ≡ Put → ⊥) → out.new ≡ out.old }
 {
     match command {
         Command::Compile { net, save } => status_of(compile(alloc, net, save, store)),
+        Command::Order {
+            save,
+            spec,
+            order_seed,
+            limit,
+            ..
+        } => finish(
+            work_of_order(alloc, save, spec, order_seed, limit, store),
+            out,
+        ),
+        Command::Replay {
+            save,
+            spec,
+            events,
+            ..
+        } => finish(work_of_replay(alloc, save, spec, events, store), out),
     }
 }
 
 /// Does what the words say, and says how it ended.
 ///
 /// `compile NET SAVE` fetches the text under the name NET, and keeps the canonical save of the
-/// network that it is under the name SAVE. Other words are no command. The words are looked at
+/// network that it is under the name SAVE. `order SAVE SPEC SEED ORDERSEED LIMIT` runs a save over a
+/// specification in an order that is drawn with ORDERSEED, and puts a report; `replay SAVE SPEC SEED EVENTS`
+/// runs it by the events of a text. Other words are no command. The words are looked at
 /// first, then the names, then the texts in the order in which a command reads them, then its work;
 /// what it makes is kept, or put as a report, at the end.
 pub fn tool<S: Store, K: Sink>(
@@ -93,11 +189,12 @@ pub fn tool<S: Store, K: Sink>(
 
     // Nothing else changes.
     ensures texts_stay { result ≢ Status.Done → S.texts store.new ≡ S.texts store.old }
-    ensures unreported { (IsOfWork result → ⊥) → result ≢ Status.SinkFault → out.new ≡ out.old }
+    ensures unreported { (IsOfWork result → ⊥) → result ≢ Status.SinkFault → result ≢ Status.NoMemory → out.new ≡ out.old }
+    ensures unwritten { result ≡ Status.NoMemory → K.written out.new ≡ K.written out.old }
     ensures sink_stays { (PutsReport (words_of words.now) → ⊥) → out.new ≡ out.old }
 {
     match read_words(words) {
         None => Status::Words,
-        Some(command) => perform(alloc, command, store),
+        Some(command) => perform(alloc, command, store, out),
     }
 }

@@ -1,17 +1,25 @@
 //! How the program ends.
 ghost use Rattle.std.specs.Prelude.{◌≡◌};
-ghost use Rattle.tis_base.specs.Answers.{Gives};
-ghost use Rattle.tis_cli.specs.Statuses.{number_of, refusal_words, status_line};
+ghost use Rattle.tis_cli.specs.Statuses.{number_of};
 
 use net_column::NetError;
-use std::alloc::Global;
-use tis_base::{NoMemory, StoreError};
+use tis_base::{NoMemory, SinkError, StoreError};
+use tis_grid_text::{EventsError, GridTextError};
+use tis_save::SaveError;
 
 /// Why a text was refused.
 #[derive(Clone, Copy, Debug, PartialEq, Eq, Hash)]
 pub enum Refusal {
     /// The network isn't of the form that is taken so far.
     NotThisForm,
+    /// The text isn't a save of these tiles.
+    Save(SaveError),
+    /// The specification isn't a grid text.
+    Grid(GridTextError),
+    /// The line names no event.
+    Events { line: usize },
+    /// The event with this number, from 0 on, can't happen in its turn.
+    NotEnabled { index: usize },
 }
 
 /// How a call of `tool` ended.
@@ -31,10 +39,12 @@ pub enum Status {
     SinkFault,
     /// Memory ran out.
     NoMemory,
+    /// As many events as were allowed have happened, and more can.
+    Limit { done: u64 },
 }
 
 impl Status {
-    /// The number that the program ends with: 0, or from 2 to 7.
+    /// The number that the program ends with: 0, or from 2 to 8.
     pub fn number(&self) -> u8
         ensures { result ≡ number_of self.now }
     {
@@ -46,6 +56,7 @@ impl Status {
             Status::StoreFault => 5,
             Status::SinkFault => 6,
             Status::NoMemory => 7,
+            Status::Limit { .. } => 8,
         }
     }
 }
@@ -90,31 +101,58 @@ impl From<NetError> for Status {
     }
 }
 
-// The name of a refusal.
-fn refusal_text(refusal: Refusal) -> &'static [u8]
-    ensures { result.now ≡ refusal_words refusal }
-{
-    match refusal {
-        Refusal::NotThisForm => b"NotThisForm",
+impl From<SaveError> for Status {
+    ghost use Rattle.std.specs.Prelude.{◌≡◌};
+    ghost use Rattle.tis_cli.specs.Statuses.{save_status};
+
+    ghost from_gives = { λ error status. status ≡ save_status error };
+
+    fn from(error: SaveError) -> Self {
+        match error {
+            SaveError::NoMemory => Status::NoMemory,
+            _ => Status::Refused(Refusal::Save(error)),
+        }
     }
 }
 
-/// The line that says how a call ended, without its LF. For `Done` it is empty.
-pub fn describe(alloc: Global, status: &Status) -> Result<Vec<u8>, NoMemory>
-    ensures { Gives (λ line. line.items) result (status_line status.now) }
-{
-    let mut line = Vec::new(alloc);
-    match status {
-        Status::Done => {}
-        Status::Words => line.extend_from_slice(b"not a command")?,
-        Status::Refused(refusal) => {
-            line.extend_from_slice(b"refused ")?;
-            line.extend_from_slice(refusal_text(*refusal))?;
+impl From<GridTextError> for Status {
+    ghost use Rattle.std.specs.Prelude.{◌≡◌};
+    ghost use Rattle.tis_cli.specs.Statuses.{grid_status};
+
+    ghost from_gives = { λ error status. status ≡ grid_status error };
+
+    fn from(error: GridTextError) -> Self {
+        match error {
+            GridTextError::NoMemory => Status::NoMemory,
+            _ => Status::Refused(Refusal::Grid(error)),
         }
-        Status::Missing => line.extend_from_slice(b"missing")?,
-        Status::StoreFault => line.extend_from_slice(b"store fault")?,
-        Status::SinkFault => line.extend_from_slice(b"sink fault")?,
-        Status::NoMemory => line.extend_from_slice(b"no memory")?,
     }
-    Ok(line)
+}
+
+impl From<EventsError> for Status {
+    ghost use Rattle.std.specs.Prelude.{◌≡◌};
+    ghost use Rattle.tis_cli.specs.Statuses.{events_status};
+
+    ghost from_gives = { λ error status. status ≡ events_status error };
+
+    fn from(error: EventsError) -> Self {
+        match error {
+            EventsError::Bad { line } => Status::Refused(Refusal::Events { line }),
+            EventsError::NoMemory => Status::NoMemory,
+        }
+    }
+}
+
+impl From<SinkError> for Status {
+    ghost use Rattle.std.specs.Prelude.{◌≡◌};
+    ghost use Rattle.tis_cli.specs.Statuses.{sink_status};
+
+    ghost from_gives = { λ error status. status ≡ sink_status error };
+
+    fn from(error: SinkError) -> Self {
+        match error {
+            SinkError::Failed => Status::SinkFault,
+            SinkError::NoMemory => Status::NoMemory,
+        }
+    }
 }

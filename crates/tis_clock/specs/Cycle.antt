@@ -48,7 +48,7 @@ ways_to_take grid tile dir = from_neighbour (next_tile grid tile dir) dir ++ Pop
 abbrev pub ways_of_ready : Grid → ℕ → List Event
 ways_of_ready grid tile = Local (record { number = tile }) ∷ flat_map (ways_to_take grid tile) directions
 
--- whether the tile that gives in this event was writing when the cycle began; other events have none
+-- of a meeting, whether the giver was writing when the cycle began; other events are let through
 abbrev pub gives_old : (ℕ → Bool) → Event → Bool
 gives_old was_writing (Meet giver dir) = was_writing giver.number
 gives_old was_writing (Local tile) = true
@@ -84,7 +84,7 @@ gives_out grid was_writing now tile = if was_writing tile then find (is_enabled 
 
 -- ---- a cycle
 
--- the state after events, each of which does what it does
+-- the state after events, whether or not they can happen; for those of a cycle this is the state that the order leads to
 abbrev pub state_after : Grid → State → List Event → State
 state_after grid state [] = state
 state_after grid state (event ∷ events) = state_after grid (after_event grid state event) events

@@ -17,6 +17,6 @@ RunsAreLegal = (grid : Grid) (state : State) (cycles : ℕ) → after grid state
 abbrev pub RestHasNoCycle : Type 0
 RestHasNoCycle = (grid : Grid) (state : State) → IsGrid grid → IsAtRest grid state ↔ (cycle_events grid state ≡ [])
 
--- each tile does one thing in a cycle at most, so that no value crosses two nodes
+-- each compute tile makes one step in a cycle at most, so that no value crosses two nodes
 abbrev pub TilesActOnce : Type 0
 TilesActOnce = (grid : Grid) (state : State) → IsGrid grid → Fits grid state → (tile : ℕ) → length (steps_of grid state (cycle_events grid state) tile) ≤ 1

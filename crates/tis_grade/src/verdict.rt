@@ -18,7 +18,7 @@ pub enum Verdict {
     Extra {
         output: u8,
     },
-    /// Nothing can happen after so many cycles, and something that is wanted hasn't come.
+    /// Nothing can happen after so many cycles, and the outputs aren't as expected.
     Stuck {
         cycles: u64,
     },

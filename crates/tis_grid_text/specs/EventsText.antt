@@ -12,7 +12,7 @@ use Rattle.tis_words.specs.Numerals.{number_of}
 use Rattle.tis_grid.specs.declared.event.Event.{Event}
 use Rattle.tis_grid.specs.declared.event.Event.TheVariants.{Local, Meet, In, Out, Push, Pop}
 
--- whether a word is this one, in letters of either case
+-- whether a word is this one, which is written in capitals, in letters of either case
 abbrev pub says : List ℕ → List ℕ → Bool
 says text word = bytes_eq (capitals word) text
 

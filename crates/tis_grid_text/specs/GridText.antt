@@ -38,10 +38,11 @@ kinds_of (byte ∷ bytes) = option_and_then (λ kind. option_map (λ kinds. kind
 abbrev pub row_of : List ℕ → Option (List TileKind)
 row_of word = if length word == 4 then kinds_of word else None
 
--- the second line is `tiles` and three rows
+-- the kinds of three rows
 abbrev pub rows_of : List ℕ → List ℕ → List ℕ → Option (List TileKind)
 rows_of first second third = option_and_then (λ a. option_and_then (λ b. option_map (λ c. (a ++ b) ++ c) (row_of third)) (row_of second)) (row_of first)
 
+-- the second line is `tiles` and three rows
 abbrev pub tiles_of : Words → Option (List TileKind)
 tiles_of (tiles ∷ first ∷ second ∷ third ∷ []) = if bytes_eq tiles (codes "tiles") then rows_of first second third else None
 tiles_of _ = None
@@ -56,7 +57,7 @@ abbrev pub is_colour : ℤ → Bool
 is_colour (pos number) = nat_le number 4
 is_colour (negsuc number) = false
 
--- the colours of all points of the console, row by row
+-- these values, where they are the colours of all 540 points of the console, row by row
 unfoldable pub picture_of : List ℤ → Option (List ℤ)
 picture_of values = if length values == 540 && list_all is_colour values then Some values else None
 

@@ -8,7 +8,7 @@ pub enum GridTextError {
     /// The line isn't what stands there in a grid text; where a line is missing, the number is the one
     /// after the last line.
     BadLine { line: usize },
-    /// The line is an input or an output at a position that another one on its side has.
+    /// The line is an input, an output or an image at a position that an earlier one on its side has.
     SamePlace { line: usize },
     /// Memory ran out.
     NoMemory,

@@ -1,5 +1,5 @@
 -- The reports of commands that run a grid: how the run ended, and then the outputs.
-use Rattle.std.specs.Prelude.{ℕ, ◌<◌, ◌^◌, List, ◌∷◌, ◌++◌, codes, decimal}
+use Rattle.std.specs.Prelude.{ℕ, List, ◌∷◌, ◌++◌, codes, decimal}
 use Rattle.tis_grid.specs.declared.running.Ended.{Ended}
 use Rattle.tis_grid.specs.declared.running.Ended.TheVariants.{Rest, Limit}
 use Rattle.tis_grid.specs.Puzzle.{Puzzle}
@@ -14,11 +14,6 @@ report_text word number puzzle state = word ++ decimal number ++ 10 ∷ outputs_
 abbrev pub ended_text : Ended → Puzzle → State → List ℕ
 ended_text (Rest done) puzzle state = report_text (codes "rest ") done puzzle state
 ended_text (Limit done) puzzle state = report_text (codes "limit ") done puzzle state
-
--- so many events as a report can tell: its number has a sign
-abbrev pub EndedSoon : Ended → Type 0
-EndedSoon (Rest done) = done < 2 ^ 63
-EndedSoon (Limit done) = done < 2 ^ 63
 
 -- an order whose events were all applied
 abbrev pub replayed_text : ℕ → Puzzle → State → List ℕ

@@ -28,11 +28,13 @@
 //! the puzzle that the state doesn't have is left out.
 #![tactic(auto)]
 
+mod count;
 mod image;
 mod outputs;
 mod report;
 mod stream;
 
+pub use count::push_count;
 pub use report::{ended_report, not_enabled_report, replayed_report};
 
 #[cfg(test)]

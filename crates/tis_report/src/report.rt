@@ -1,12 +1,12 @@
 //! The reports of commands that run a grid.
-ghost use Rattle.std.specs.Prelude.{◌≡◌, ◌<◌, ◌^◌};
 ghost use Rattle.tis_base.specs.Answers.{Gives};
 ghost use Rattle.tis_grid.specs.Puzzle.{puzzle_of};
-ghost use Rattle.tis_report.specs.Reports.{report_text, EndedSoon, ended_text, replayed_text, not_enabled_text};
+ghost use Rattle.tis_report.specs.Reports.{report_text, ended_text, replayed_text, not_enabled_text};
 
+use crate::count::push_count;
 use crate::outputs::push_outputs;
 use std::alloc::Global;
-use tis_base::{NoMemory, push_number};
+use tis_base::NoMemory;
 use tis_grid::{Ended, Puzzle, State};
 
 // A line of a word and a number, and the outputs.
@@ -17,12 +17,11 @@ fn report(
     puzzle: &Puzzle,
     state: &State,
 ) -> Result<Vec<u8>, NoMemory>
-    requires { number < 2 ^ 63 }
     ensures { Gives (λ text. text.items) result (report_text word.now number (puzzle_of puzzle.now) state.now.state) }
 {
     let mut text = Vec::new(alloc);
     text.extend_from_slice(word)?;
-    push_number(&mut text, number as i64)?;
+    push_count(&mut text, number)?;
     text.push(b'\n')?;
     push_outputs(&mut text, puzzle, state)?;
     Ok(text)
@@ -35,7 +34,6 @@ pub fn ended_report(
     puzzle: &Puzzle,
     state: &State,
 ) -> Result<Vec<u8>, NoMemory>
-    requires { EndedSoon ended }
     ensures { Gives (λ text. text.items) result (ended_text ended (puzzle_of puzzle.now) state.now.state) }
 {
     match ended {
@@ -51,7 +49,6 @@ pub fn replayed_report(
     puzzle: &Puzzle,
     state: &State,
 ) -> Result<Vec<u8>, NoMemory>
-    requires { count < 2 ^ 63 }
     ensures { Gives (λ text. text.items) result (replayed_text count (puzzle_of puzzle.now) state.now.state) }
 {
     report(alloc, b"events ", count, puzzle, state)
@@ -64,7 +61,6 @@ pub fn not_enabled_report(
     puzzle: &Puzzle,
     state: &State,
 ) -> Result<Vec<u8>, NoMemory>
-    requires { index < 2 ^ 63 }
     ensures { Gives (λ text. text.items) result (not_enabled_text index (puzzle_of puzzle.now) state.now.state) }
 {
     report(alloc, b"not enabled ", index, puzzle, state)

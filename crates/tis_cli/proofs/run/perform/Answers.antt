@@ -1,13 +1,30 @@
-use Rattle.std.proofs.Common.{◌≡◌, refl}
-use Rattle.tis_cli.specs.declared.command.Command as held
-use Rattle.tis_cli.specs.declared.command.Command.TheVariants as held_as
+use Rattle.std.proofs.Common.{refl, sym, ◌∙◌}
+use Rattle.tis_cli.specs.Commands.{Order, Replay}
+use Rattle.tis_cli.proofs.Putting.{runs_end, finished}
+use Rattle.tis_cli.proofs.Statuses.{never_put}
 use Rattle.tis_cli.proofs.run.perform.Goals as goal
 
--- a command is one of the variants
-variant : (command : held.Command) → (net : _) × (save : _) × (command ≡ held_as.Compile net save)
-variant (held_as.Compile net save) = (net, save, refl)
+pub finish-requires : goal.finish-requires
+finish-requires g c = runs_end (Order c.in-Order.save.now c.in-Order.spec.now c.in-Order.seed c.in-Order.order_seed c.in-Order.limit) (g.S.Store.texts c.args.store.now) c.work_of_order.result (c.work_of_order.ensures.runs c.in-Order.seed)
 
-pub returns-clause-explains : goal.returns-clause-explains
-returns-clause-explains g c = λ written.
-    let is = (variant c.args.command).2 in
-    rw (c.status_of.ensures, is) (rw is at (c.compile.ensures.explains written))
+pub finish-requires-in-Replay : goal.finish-requires-in-Replay
+finish-requires-in-Replay g c = runs_end (Replay c.in-Replay.save.now c.in-Replay.spec.now c.in-Replay.seed c.in-Replay.events.now) (g.S.Store.texts c.args.store.now) c.work_of_replay.result (c.work_of_replay.ensures.runs c.in-Replay.seed)
+
+pub returns-in-Compile-clause-explains : goal.returns-in-Compile-clause-explains
+returns-in-Compile-clause-explains g c = rw (c.status_of.ensures, c.in-Compile.is) (c.compile.ensures.explains (g.K.Sink.written c.args.out.now))
+
+pub returns-in-Compile-clause-sink_fault_counted : goal.returns-in-Compile-clause-sink_fault_counted
+returns-in-Compile-clause-sink_fault_counted g c failed =
+    absurd (never_put c.in-Compile.net.now c.in-Compile.save.now _ _ _ _ (c.compile.ensures.explains (g.K.Sink.written c.args.out.now)) (sym c.status_of.ensures ∙ failed))
+
+pub returns-in-Order-clause-explains : goal.returns-in-Order-clause-explains
+returns-in-Order-clause-explains g c =
+    rw c.in-Order.is
+    (finished (Order c.in-Order.save.now c.in-Order.spec.now c.in-Order.seed c.in-Order.order_seed c.in-Order.limit) refl (λ found bytes. tt) (g.S.Store.texts c.args.store.now) (g.S.Store.texts c.work_of_order.new.store) c.work_of_order.ensures.texts_stay
+    c.work_of_order.result (c.work_of_order.ensures.runs c.in-Order.seed) (g.K.Sink.written c.args.out.now) (g.K.Sink.written c.finish.new.out) c.finish.result c.finish.ensures.finishes)
+
+pub returns-in-Replay-clause-explains : goal.returns-in-Replay-clause-explains
+returns-in-Replay-clause-explains g c =
+    rw c.in-Replay.is
+    (finished (Replay c.in-Replay.save.now c.in-Replay.spec.now c.in-Replay.seed c.in-Replay.events.now) refl (λ found bytes. tt) (g.S.Store.texts c.args.store.now) (g.S.Store.texts c.work_of_replay.new.store) c.work_of_replay.ensures.texts_stay
+    c.work_of_replay.result (c.work_of_replay.ensures.runs c.in-Replay.seed) (g.K.Sink.written c.args.out.now) (g.K.Sink.written c.finish-in-Replay.new.out) c.finish-in-Replay.result c.finish-in-Replay.ensures.finishes)

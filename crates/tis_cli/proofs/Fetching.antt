@@ -1,0 +1,49 @@
+-- What was fetched for a command, and what it comes to.
+use Rattle.std.proofs.Common.{◌≡◌, ℕ, List, [], ◌∷◌, Option, Some, Result, Ok, Err, refl, sym, ap, ◌∙◌}
+use Rattle.std.specs.Prelude.{IfSome}
+use Rattle.tis_base.specs.Outside.{Texts, text_at}
+use Rattle.tis_cli.specs.declared.status.Status.{Status}
+use Rattle.tis_cli.specs.declared.status.Status.TheVariants.{Done, Words, Refused, Missing, StoreFault, SinkFault, NoMemory, Limit}
+use Rattle.tis_cli.specs.declared.runs.Run.{Run}
+use Rattle.tis_cli.specs.Answers.{Answer, Refuses, Makes}
+use Rattle.tis_cli.specs.Commands.{Command, Order, Replay, fetched, ComesTo}
+use Rattle.tis_cli.specs.Runs.{order_answer, replay_answer}
+use Rattle.tis_cli.specs.Ends.{Ends}
+use Rattle.tis_cli.specs.Outcomes.{texts_under, with_first, AreFetched, Runs}
+use Rattle.tis_cli.proofs.Explained.{told_is}
+
+-- texts that come to the answer of a run
+comes_to_run : (command : Command) (told : Option Texts) (found : List (List ℕ)) (answer : Answer) (result : Result Run Status) → AreFetched command told found → ((other : Answer) → other ≡ answer → ComesTo command found other) → Ends result answer → Runs command told result
+comes_to_run command told found answer (Ok run) are comes ends =
+    record { found = found; completion = ends.0; are = are; comes = comes (Makes ends.0 run.report.items) (sym ends.1); status_is = ends.2 }
+comes_to_run command told found answer (Err (Refused refusal)) are comes ends = record { found = found; are = are; comes = comes (Refuses refusal) (sym ends) }
+comes_to_run command told found answer (Err NoMemory) are comes ends = tt
+comes_to_run command told found answer (Err Missing) are comes ends = absurd ends
+comes_to_run command told found answer (Err StoreFault) are comes ends = absurd ends
+comes_to_run command told found answer (Err Done) are comes ends = ends
+comes_to_run command told found answer (Err Words) are comes ends = ends
+comes_to_run command told found answer (Err SinkFault) are comes ends = ends
+comes_to_run command told found answer (Err (Limit done)) are comes ends = ends
+
+-- a text that is there, before others that are
+one_more : (texts : Texts) (name text : List ℕ) (names found : List (List ℕ)) → text_at texts name ≡ Some text → texts_under texts names ≡ Some found → texts_under texts (name ∷ names) ≡ Some (text ∷ found)
+one_more texts name text names found here behind = ap (λ (o : Option (List ℕ)). with_first o (texts_under texts names)) here ∙ ap (with_first (Some text)) behind
+
+told_under : (told now : Option Texts) (name text : List ℕ) → now ≡ told → IfSome now (λ texts. text_at texts name ≡ Some text) → (texts : Texts) → told ≡ Some texts → text_at texts name ≡ Some text
+told_under told now name text same fetched texts is = told_is now (λ (t : Texts). text_at t name ≡ Some text) fetched texts (same ∙ is)
+
+-- two texts that were fetched
+pub order_runs : (told second : Option Texts) (save spec saved read : List ℕ) (saved_seen read_seen : List ℕ) (seed order_seed limit : ℕ) (result : Result Run Status) → second ≡ told → IfSome told (λ texts. text_at texts save ≡ Some saved) → IfSome second (λ texts. text_at texts spec ≡ Some read) → saved_seen ≡ saved → read_seen ≡ read → Ends result (order_answer saved_seen read_seen order_seed limit) → Runs (Order save spec seed order_seed limit) told result
+order_runs told second save spec saved read saved_seen read_seen seed order_seed limit result stay first next saved_is read_is ends =
+    comes_to_run (Order save spec seed order_seed limit) told (saved ∷ read ∷ []) (order_answer saved_seen read_seen order_seed limit) result
+    (λ texts is. one_more texts save saved (spec ∷ []) (read ∷ []) (told_under told told save saved refl first texts is) (one_more texts spec read [] [] (told_under told second spec read stay next texts is) refl))
+    (λ other same. same ∙ ap (λ (b : List ℕ). order_answer b read_seen order_seed limit) saved_is ∙ ap (λ (b : List ℕ). order_answer saved b order_seed limit) read_is)
+    ends
+
+-- three texts that were fetched
+pub replay_runs : (told second third : Option Texts) (save spec events saved read listed : List ℕ) (saved_seen read_seen listed_seen : List ℕ) (seed : ℕ) (result : Result Run Status) → second ≡ told → third ≡ second → IfSome told (λ texts. text_at texts save ≡ Some saved) → IfSome second (λ texts. text_at texts spec ≡ Some read) → IfSome third (λ texts. text_at texts events ≡ Some listed) → saved_seen ≡ saved → read_seen ≡ read → listed_seen ≡ listed → Ends result (replay_answer saved_seen read_seen listed_seen) → Runs (Replay save spec seed events) told result
+replay_runs told second third save spec events saved read listed saved_seen read_seen listed_seen seed result stay again first next last saved_is read_is listed_is ends =
+    comes_to_run (Replay save spec seed events) told (saved ∷ read ∷ listed ∷ []) (replay_answer saved_seen read_seen listed_seen) result
+    (λ texts is. one_more texts save saved (spec ∷ events ∷ []) (read ∷ listed ∷ []) (told_under told told save saved refl first texts is) (one_more texts spec read (events ∷ []) (listed ∷ []) (told_under told second spec read stay next texts is) (one_more texts events listed [] [] (told_under told third events listed (again ∙ stay) last texts is) refl)))
+    (λ other same. same ∙ ap (λ (b : List ℕ). replay_answer b read_seen listed_seen) saved_is ∙ ap (λ (b : List ℕ). replay_answer saved b listed_seen) read_is ∙ ap (λ (b : List ℕ). replay_answer saved read b) listed_is)
+    ends

@@ -1,0 +1,17 @@
+use Rattle.std.proofs.Common.{sym, subst}
+use Rattle.std.proofs.lemmas.Result.{err_from_is_err_and}
+use Rattle.tis_grid_text.specs.EventsText.{events_of}
+use Rattle.tis_cli.specs.Answers.{Answer}
+use Rattle.tis_cli.specs.Runs.{replayed, replay_answer}
+use Rattle.tis_cli.specs.Ends.{Ends}
+use Rattle.tis_cli.proofs.runs.replay.Goals as goal
+
+pub returns-in_err-grid : goal.returns-in_err-grid
+unfolding replay_answer
+returns-in_err-grid c =
+    let p = err_from_is_err_and c.from_residual.result c.from_residual.ensures.1 in
+    rw (p.1, p.2) (c.in_err-grid.ensures (replayed (events_of c.args.events.now)))
+
+pub returns : goal.returns
+unfolding replay_answer
+returns c = subst (λ (a : Answer). Ends c.run_events.result a) (sym (c.in_ok-grid.ensures (replayed (events_of c.args.events.now)))) c.run_events.ensures

@@ -1,0 +1,109 @@
+-- What `order` and `replay` come to over the texts that they fetch: the first refusal, or the report of what the grid did.
+use Rattle.std.specs.Prelude.{ℕ, ◌+◌, List, [], ◌∷◌, length, Option, Some, None, unwrap_or, Result, Ok, Err}
+use Rattle.tis_asm.specs.declared.error.AsmError.{AsmError}
+use Rattle.tis_asm.specs.declared.error.AsmError.TheVariants as code
+use Rattle.tis_asm.specs.Assembling as asm
+use Rattle.tis_asm.specs.Programs.{Programs}
+use Rattle.tis_save.specs.declared.error.SaveError.{SaveError}
+use Rattle.tis_save.specs.declared.error.SaveError.TheVariants as held_save
+use Rattle.tis_save.specs.Reading as save
+use Rattle.tis_grid.specs.declared.event.Event.{Event}
+use Rattle.tis_grid.specs.declared.running.Ended.TheVariants.{Rest, Limit}
+use Rattle.tis_grid.specs.Puzzle.{Puzzle}
+use Rattle.tis_grid.specs.State.{Grid, State, start}
+use Rattle.tis_grid.specs.Events.{step}
+use Rattle.tis_grid.specs.Orders.{after}
+use Rattle.tis_grid.specs.Choices.{enabled_events}
+use Rattle.tis_grid.specs.Drawn.{drawn}
+use Rattle.tis_grid_text.specs.declared.error.GridTextError.{GridTextError}
+use Rattle.tis_grid_text.specs.declared.error.GridTextError.TheVariants as held_grid
+use Rattle.tis_grid_text.specs.GridText as text
+use Rattle.tis_grid_text.specs.EventsText.{events_of}
+use Rattle.tis_report.specs.Reports.{ended_text, replayed_text, not_enabled_text}
+use Rattle.tis_cli.specs.declared.status.Refusal.TheVariants.{Save, Grid as Grid_text, Events}
+use Rattle.tis_cli.specs.Answers.{Answer, Refuses, Makes, AllDone, Limited, Stopped}
+
+-- ---- refusals, as they are held
+
+abbrev pub asm_error : asm.AsmRefusal → AsmError
+asm_error asm.TooManyLines = code.TooManyLines
+asm_error (asm.LongLine line) = code.LongLine line
+asm_error (asm.BadLine line) = code.BadLine line
+asm_error (asm.RepeatedLabel line) = code.RepeatedLabel line
+asm_error (asm.UnknownLabel line) = code.UnknownLabel line
+
+abbrev pub save_error : save.SaveRefusal → SaveError
+save_error (save.BadHead line) = held_save.BadHead line
+save_error (save.UnknownBlock line) = held_save.UnknownBlock line
+save_error (save.RepeatedBlock line) = held_save.RepeatedBlock line
+save_error (save.StrayCode line) = held_save.StrayCode line
+save_error (save.Asm block refusal) = held_save.Asm block (asm_error refusal)
+
+abbrev pub grid_error : text.Refusal → GridTextError
+grid_error (text.BadLine line) = held_grid.BadLine line
+grid_error (text.SamePlace line) = held_grid.SamePlace line
+
+-- ---- texts
+
+-- the grid of a puzzle and these programs
+abbrev pub grid_of : Puzzle → Programs → Grid
+grid_of puzzle programs = record { puzzle = puzzle; programs = programs.programs }
+
+-- what follows over the programs of a save, or its refusal
+abbrev pub over_programs : Result Programs save.SaveRefusal → (Programs → Answer) → Answer
+over_programs (Err refusal) next = Refuses (Save (save_error refusal))
+over_programs (Ok programs) next = next programs
+
+-- what follows over the puzzle of a grid text, or its refusal
+abbrev pub over_puzzle : Result Puzzle text.Refusal → (Puzzle → Answer) → Answer
+over_puzzle (Err refusal) next = Refuses (Grid_text (grid_error refusal))
+over_puzzle (Ok puzzle) next = next puzzle
+
+-- what follows over the events of a text, or its first line that names none
+abbrev pub over_events : Result (List Event) ℕ → (List Event → Answer) → Answer
+over_events (Err line) next = Refuses (Events line)
+over_events (Ok events) next = next events
+
+-- what follows over the grid of a save and a specification; the save is read over the tiles of the specification, which is looked at first
+abbrev pub over_grid : List ℕ → List ℕ → (Grid → Answer) → Answer
+over_grid saved spec next = over_puzzle (text.grid_of spec) (λ puzzle. over_programs (save.save_of saved puzzle.tiles) (λ programs. next (grid_of puzzle programs)))
+
+-- ---- an order that is drawn
+
+-- the end of so many events in this state: at rest, where none of these can happen, or at the limit
+abbrev pub ended_by : ℕ → Puzzle → State → List Event → Answer
+ended_by done puzzle state [] = Makes AllDone (ended_text (Rest done) puzzle state)
+ended_by done puzzle state (event ∷ events) = Makes (Limited done) (ended_text (Limit done) puzzle state)
+
+-- the state after an order, which is legal
+abbrev pub state_after : Grid → List Event → State
+state_after grid events = unwrap_or (after grid (start grid) events) (start grid)
+
+-- a grid from its start, in the order that is drawn with this seed, up to so many events
+abbrev pub ordered : ℕ → ℕ → Grid → Answer
+ordered seed limit grid =
+    let events = drawn grid (start grid) seed limit in
+    ended_by (length events) grid.puzzle (state_after grid events) (enabled_events grid (state_after grid events))
+
+-- ---- an order that is handed in
+
+-- the next event, where it can happen, or the end at the event with this index
+abbrev pub replayed_at : Puzzle → State → ℕ → Option State → (State → Answer) → Answer
+replayed_at puzzle state index None next = Makes (Stopped index) (not_enabled_text index puzzle state)
+replayed_at puzzle state index (Some after) next = next after
+
+-- a grid from a state on, by the events of an order, the first of which has this index
+abbrev pub replayed_from : Grid → ℕ → List Event → State → Answer
+replayed_from grid index [] state = Makes AllDone (replayed_text index grid.puzzle state)
+replayed_from grid index (event ∷ events) state = replayed_at grid.puzzle state index (step grid state event) (λ next. replayed_from grid (index + 1) events next)
+
+abbrev pub replayed : Result (List Event) ℕ → Grid → Answer
+replayed order grid = over_events order (λ events. replayed_from grid 0 events (start grid))
+
+-- ---- the commands
+
+unfoldable pub order_answer : List ℕ → List ℕ → ℕ → ℕ → Answer
+order_answer saved spec seed limit = over_grid saved spec (ordered seed limit)
+
+unfoldable pub replay_answer : List ℕ → List ℕ → List ℕ → Answer
+replay_answer saved spec events = over_grid saved spec (replayed (events_of events))

@@ -1,0 +1,132 @@
+//! The line that says how the program ended.
+ghost use Rattle.std.specs.Prelude.{◌≡◌, ◌++◌, OnOk};
+ghost use Rattle.tis_base.specs.Answers.{Gives};
+ghost use Rattle.tis_save.specs.declared.error.SaveError.TheVariants.{Asm};
+ghost use Rattle.tis_cli.specs.Statuses.{with_number, asm_words, save_words, grid_words, refusal_words, status_line};
+
+use crate::status::{Refusal, Status};
+use std::alloc::Global;
+use tis_asm::AsmError;
+use tis_base::NoMemory;
+use tis_grid_text::GridTextError;
+use tis_report::push_count;
+use tis_save::SaveError;
+
+// Writes a name and a number behind what is there.
+fn push_with_number(line: &mut Vec<u8>, name: &[u8], number: u64) -> Result<(), NoMemory>
+    ensures { OnOk result (line.new.items ≡ line.old.items ++ with_number name.now number) }
+{
+    line.extend_from_slice(name)?;
+    push_count(line, number)
+}
+
+// Writes a name behind what is there.
+fn push_name(line: &mut Vec<u8>, name: &[u8]) -> Result<(), NoMemory>
+    ensures { OnOk result (line.new.items ≡ line.old.items ++ name.now) }
+{
+    line.extend_from_slice(name)?;
+    Ok(())
+}
+
+// Writes why code is no program.
+fn push_asm(line: &mut Vec<u8>, error: AsmError) -> Result<(), NoMemory>
+    ensures { OnOk result (line.new.items ≡ line.old.items ++ asm_words error) }
+{
+    match error {
+        AsmError::TooManyLines => push_name(line, b"TooManyLines"),
+        AsmError::LongLine { line: at } => push_with_number(line, b"LongLine ", at as u64),
+        AsmError::BadLine { line: at } => push_with_number(line, b"BadLine ", at as u64),
+        AsmError::RepeatedLabel { line: at } => push_with_number(
+            line,
+            b"RepeatedLabel ",
+            at as u64,
+        ),
+        AsmError::UnknownLabel { line: at } => push_with_number(line, b"UnknownLabel ", at as u64),
+        AsmError::NoMemory => push_name(line, b"NoMemory"),
+    }
+}
+
+// Writes which block of a save has an error, and which.
+fn push_block(line: &mut Vec<u8>, block: u8, error: AsmError) -> Result<(), NoMemory>
+    ensures { OnOk result (line.new.items ≡ line.old.items ++ save_words (Asm block error)) }
+{
+    push_with_number(line, b"Asm ", u64::from(block))?;
+    push_name(line, b" ")?;
+    push_asm(line, error)
+}
+
+// Writes why a text is no save.
+fn push_save(line: &mut Vec<u8>, error: SaveError) -> Result<(), NoMemory>
+    ensures { OnOk result (line.new.items ≡ line.old.items ++ save_words error) }
+{
+    match error {
+        SaveError::BadHead { line: at } => push_with_number(line, b"BadHead ", at as u64),
+        SaveError::UnknownBlock { line: at } => push_with_number(line, b"UnknownBlock ", at as u64),
+        SaveError::RepeatedBlock { line: at } => push_with_number(
+            line,
+            b"RepeatedBlock ",
+            at as u64,
+        ),
+        SaveError::StrayCode { line: at } => push_with_number(line, b"StrayCode ", at as u64),
+        SaveError::Asm { block, error } => push_block(line, block, error),
+        SaveError::NoMemory => push_name(line, b"NoMemory"),
+    }
+}
+
+// Writes why a text is no grid.
+fn push_grid(line: &mut Vec<u8>, error: GridTextError) -> Result<(), NoMemory>
+    ensures { OnOk result (line.new.items ≡ line.old.items ++ grid_words error) }
+{
+    match error {
+        GridTextError::BadLine { line: at } => push_with_number(line, b"BadLine ", at as u64),
+        GridTextError::SamePlace { line: at } => push_with_number(line, b"SamePlace ", at as u64),
+        GridTextError::NoMemory => push_name(line, b"NoMemory"),
+    }
+}
+
+// Writes the text of a refusal that begins with this name.
+fn push_refusal(line: &mut Vec<u8>, refusal: Refusal) -> Result<(), NoMemory>
+    ensures { OnOk result (line.new.items ≡ line.old.items ++ refusal_words refusal) }
+{
+    match refusal {
+        Refusal::NotThisForm => push_name(line, b"NotThisForm"),
+        Refusal::Save(error) => {
+            push_name(line, b"Save ")?;
+            push_save(line, error)
+        }
+        Refusal::Grid(error) => {
+            push_name(line, b"Grid ")?;
+            push_grid(line, error)
+        }
+        Refusal::Events { line: at } => push_with_number(line, b"Events ", at as u64),
+        Refusal::NotEnabled { index } => push_with_number(line, b"NotEnabled ", index as u64),
+    }
+}
+
+// Writes the line of a status behind what is there.
+fn push_status(line: &mut Vec<u8>, status: Status) -> Result<(), NoMemory>
+    ensures { OnOk result (line.new.items ≡ line.old.items ++ status_line status) }
+{
+    match status {
+        Status::Done => Ok(()),
+        Status::Words => push_name(line, b"not a command"),
+        Status::Refused(refusal) => {
+            push_name(line, b"refused ")?;
+            push_refusal(line, refusal)
+        }
+        Status::Missing => push_name(line, b"missing"),
+        Status::StoreFault => push_name(line, b"store fault"),
+        Status::SinkFault => push_name(line, b"sink fault"),
+        Status::NoMemory => push_name(line, b"no memory"),
+        Status::Limit { done } => push_with_number(line, b"limit ", done),
+    }
+}
+
+/// The line that says how a call ended, without its LF. For `Done` it is empty.
+pub fn describe(alloc: Global, status: &Status) -> Result<Vec<u8>, NoMemory>
+    ensures { Gives (λ line. line.items) result (status_line status.now) }
+{
+    let mut line = Vec::new(alloc);
+    push_status(&mut line, *status)?;
+    Ok(line)
+}
