@@ -16,10 +16,13 @@ use Rattle.std.proofs.lemmas.List.Folds.{length-flat_map-take, flat_map-map}
 use Rattle.std.proofs.lemmas.Option.{slice_get-get_or, slice_get_within}
 use Rattle.std.proofs.lemmas.List.Elements.{filter-append}
 use Rattle.tis_grid.specs.declared.event.Event.{Event}
-use Rattle.tis_grid.specs.declared.event.Event.TheVariants.{In, Out}
+use Rattle.tis_grid.specs.declared.event.Event.TheVariants.{Pop, Push, Meet, In, Out}
 use Rattle.tis_grid.specs.State.{Grid, IsGrid, State}
-use Rattle.tis_grid.specs.Events.{is_enabled}
-use Rattle.tis_grid.specs.Choices.{events_at, all_events, enabled_events, those_enabled}
+use Rattle.tis_grid.specs.Events.{is_enabled, is_giving, is_waiting, is_compute_at}
+use Rattle.tis_grid.specs.Choices.{events_towards, events_at, all_events, enabled_events, those_enabled}
+use Rattle.std.specs.Prelude.{filter, ◌&&◌}
+use Rattle.tis_base.specs.declared.tiles.Dir.{Dir}
+use Rattle.tis_base.specs.declared.tiles.Dir.TheVariants.{Left, Right, Up, Down}
 
 module _ (grid : Grid) (state : State) where
   -- one list behind another
@@ -62,6 +65,76 @@ module _ (grid : Grid) (state : State) where
   -- a list that has grown by those of more events
   pub grown : (before more first new : List Event) → first ≡ those_enabled grid state before → new ≡ first ++ those_enabled grid state more → new ≡ those_enabled grid state (before ++ more)
   grown before more first new is by = by ∙ those_more before more first is
+
+-- ---- what isn't enabled
+
+-- no event passes
+NonePass : (Event → Bool) → List Event → Type 0
+NonePass test [] = Unit {0}
+NonePass test (event ∷ events) = (test event ≡ false) × NonePass test events
+
+filter_none : (test : Event → Bool) (events : List Event) → NonePass test events → filter test events ≡ []
+unfolding NonePass
+filter_none test [] none = refl
+filter_none test (event ∷ events) none = ap (λ (b : Bool). cond b (event ∷ filter test events) (filter test events)) none.0 ∙ filter_none test events none.1
+
+none_of : (grid : Grid) (state : State) (events : List Event) → NonePass (is_enabled grid state) events → those_enabled grid state events ≡ []
+unfolding those_enabled
+none_of grid state events none = filter_none (is_enabled grid state) events none
+
+-- where the first test fails, so do both
+first_fails : (a b : Bool) → a ≡ false → (a && b) ≡ false
+first_fails a b is = ap (λ (x : Bool). x && b) is
+
+module _ (grid : Grid) (state : State) (tile : ℕ) where
+  -- a tile that gives nothing meets no other one and pushes nothing
+  pub only_pops : (dir : Dir) → is_giving grid state tile dir ≡ false → those_enabled grid state (Pop (record { number = tile }) dir ∷ []) ≡ those_enabled grid state (events_towards tile dir)
+  unfolding NonePass
+  only_pops dir gives_none =
+      let none = none_of grid state (Meet (record { number = tile }) dir ∷ Push (record { number = tile }) dir ∷ []) (first_fails _ _ gives_none, (first_fails _ _ gives_none, tt)) in
+      ap (λ (xs : List Event). xs ++ those_enabled grid state (Pop (record { number = tile }) dir ∷ [])) (sym none)
+      ∙ sym (those-append grid state (Meet (record { number = tile }) dir ∷ Push (record { number = tile }) dir ∷ []) (Pop (record { number = tile }) dir ∷ []))
+
+  -- a tile that isn't a compute tile can do nothing
+  pub none_at : is_compute_at grid tile ≡ false → [] ≡ those_enabled grid state (events_at tile)
+  unfolding NonePass
+  none_at other = sym (none_of grid state (events_at tile) (
+    first_fails _ _ other,
+    (
+      gives_none Left _,
+      (
+        gives_none Left _,
+        (
+          waits_none Left _,
+          (
+            gives_none Right _,
+            (
+              gives_none Right _,
+              (
+                waits_none Right _,
+                (
+                  gives_none Up _,
+                  (
+                    gives_none Up _,
+                    (
+                      waits_none Up _,
+                      (gives_none Down _, (gives_none Down _, (waits_none Down _, tt))),
+                    ),
+                  ),
+                ),
+              ),
+            ),
+          ),
+        ),
+      ),
+    ),
+  ))
+    where
+      gives_none : (dir : Dir) (b : Bool) → (is_giving grid state tile dir && b) ≡ false
+      gives_none dir b = first_fails (is_giving grid state tile dir) b (first_fails (is_compute_at grid tile) _ other)
+
+      waits_none : (dir : Dir) (b : Bool) → (is_waiting grid state tile dir && b) ≡ false
+      waits_none dir b = first_fails (is_waiting grid state tile dir) b (first_fails (is_compute_at grid tile) _ other)
 
 -- ---- the lists one after the other
 

@@ -110,8 +110,8 @@ impl Grid {
         }
     }
 
-    // What a tile can do in a direction.
-    fn list_towards(&self, state: &State, tile: Tile, dir: Dir, events: &mut ArrayVec<Event, WAYS>)
+    // What a tile that gives can do in a direction.
+    fn list_giving(&self, state: &State, tile: Tile, dir: Dir, events: &mut ArrayVec<Event, WAYS>)
         requires fits { Fits self.now state.now.state }
         requires room { array_vec_len events.old + 3 ≤ WAYS }
         ensures listed { events.new.items ≡ events.old.items ++ those_enabled self.now state.now.state (events_towards tile.number dir) }
@@ -122,12 +122,29 @@ impl Grid {
         self.list(state, Event::Pop(tile, dir), events);
     }
 
+    // What a tile can do in a direction: one that gives nothing there can only pop.
+    fn list_towards(&self, state: &State, tile: Tile, dir: Dir, events: &mut ArrayVec<Event, WAYS>)
+        requires fits { Fits self.now state.now.state }
+        requires room { array_vec_len events.old + 3 ≤ WAYS }
+        ensures listed { events.new.items ≡ events.old.items ++ those_enabled self.now state.now.state (events_towards tile.number dir) }
+        ensures len { array_vec_len events.new ≤ array_vec_len events.old + 3 }
+    {
+        if self.is_giving(state, tile, dir) {
+            self.list_giving(state, tile, dir, events);
+        } else {
+            self.list(state, Event::Pop(tile, dir), events);
+        }
+    }
+
     // What a tile can do.
     pub(crate) fn tile_events(&self, state: &State, tile: Tile) -> ArrayVec<Event, WAYS>
         requires { Fits self.now state.now.state }
         ensures { result.items ≡ those_enabled self.now state.now.state (events_at tile.number) }
     {
         let mut events = ArrayVec::new();
+        if !self.is_compute(tile) {
+            return events;
+        }
         self.list(state, Event::Local(tile), &mut events);
         self.list_towards(state, tile, Dir::Left, &mut events);
         self.list_towards(state, tile, Dir::Right, &mut events);

@@ -27,7 +27,7 @@ impl Grid {
     }
 
     // Whether a compute tile is there.
-    fn is_compute(&self, tile: Tile) -> bool
+    pub(crate) fn is_compute(&self, tile: Tile) -> bool
         ensures is { result ≡ event.is_compute_at self.now tile.number }
         ensures there { IsTrue result → tile.number < length self.now.puzzle.tiles.kinds }
     {
@@ -82,7 +82,7 @@ impl Grid {
     }
 
     // Whether a compute tile gives a value to a port.
-    fn is_giving(&self, state: &State, tile: Tile, dir: Dir) -> bool
+    pub(crate) fn is_giving(&self, state: &State, tile: Tile, dir: Dir) -> bool
         requires { Fits self.now state.now.state }
         ensures is { result ≡ event.is_giving self.now state.now.state tile.number dir }
         ensures there { IsTrue result → tile.number < length self.now.puzzle.tiles.kinds }

@@ -1,6 +1,6 @@
 use Rattle.std.proofs.Common.{◌≡◌, sym, ◌∙◌, []}
 use Rattle.tis_grid.specs.Choices.{those_enabled}
-use Rattle.tis_grid.proofs.Choosing.{grown, those-empty}
+use Rattle.tis_grid.proofs.Choosing.{grown, those-empty, none_at}
 use Rattle.tis_grid.proofs.grid.Grid.tile_events.Goals as goal
 
 pub returns : goal.returns
@@ -11,3 +11,6 @@ returns c =
     let right = grown c.args.self.now c.args.state.now.state _ _ _ _ left c.list_towards-2.ensures.listed in
     let up = grown c.args.self.now c.args.state.now.state _ _ _ _ right c.list_towards-3.ensures.listed in
     grown c.args.self.now c.args.state.now.state _ _ _ _ up c.list_towards-4.ensures.listed
+
+pub returns-then-not-is_compute : goal.returns-then-not-is_compute
+returns-then-not-is_compute c = c.new-events.ensures ∙ none_at c.args.self.now c.args.state.now.state c.args.tile.number (sym c.is_compute.ensures.is ∙ c.if-not-is_compute.true)
