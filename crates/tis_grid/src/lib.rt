@@ -1,15 +1,20 @@
-//! Puzzles, and the laws of every grid.
+//! Grids that run, in any order of events, and the laws of every grid.
 //!
 //! # What it is for
 //!
-//! A [`Puzzle`] is tiles, what comes in above the top row and what is wanted below the bottom row. A grid is
-//! a puzzle with a program for each tile; an [`Event`] is one thing that can happen in it: a node makes a local
-//! step, two nodes meet at a port, a value comes in or goes out, a stack takes or gives one. `specs/Events.antt`
-//! says when each can happen and what it does, and `specs/Orders.antt` where a list of them leads.
+//! A [`Puzzle`] is tiles, what comes in above the top row and what is wanted below the bottom row. A [`Grid`] is
+//! a puzzle with a program for each tile, and a [`State`] is a grid at one moment; an [`Event`] is one thing that
+//! can happen in it: a node makes a local step, two nodes meet at a port, a value comes in or goes out, a stack
+//! takes or gives one. `specs/Events.antt` says when each can happen and what it does, and `specs/Orders.antt`
+//! where a list of them leads.
 //!
 //! # What the layers above use
 //!
-//! The laws, which hold whatever the programs are and whatever the order: [`states_fit`],
+//! Each call of [`Grid`] and [`State`] is what the definition says: whether an event is enabled, the state after
+//! it, the state after a list of events or the first that isn't enabled, and the state after the order that a
+//! seed draws. Every call asks for a state of its grid and keeps it one; [`Grid::start`] gives the first.
+//!
+//! The laws hold whatever the programs are and whatever the order: [`states_fit`],
 //! [`enabled_events_are_listed`], [`drawn_orders_are_legal`], [`orders_are_runs`], [`links_pass_all`],
 //! [`events_are_counted`]. They are functions without a body, whose contracts are the laws: nothing has to be
 //! called.
@@ -17,15 +22,22 @@
 //! # An example
 //!
 //! ```text
-//! let mut inputs = Vec::new(alloc);
-//! inputs.push(InputAt { position: 1, values })?;
-//! let puzzle = Puzzle { tiles, inputs, outputs };
+//! let grid = Grid::new(puzzle, programs);
+//! let mut state = grid.start(alloc)?;
+//! grid.run_seeded(&mut state, 1, 100)?;
+//! state.out(1);
 //! ```
+//!
+//! # What it costs
+//!
+//! [`Grid::apply`], [`Grid::enabled`], [`Grid::at_rest`], [`State::point`] and [`State::return_to`] take no
+//! memory. [`Grid::run_order`] makes its room first, and [`Grid::run_seeded`] where an output has none left. An
+//! event of a drawn order takes a time that doesn't grow with what lies elsewhere on the grid, but for the choice
+//! among what can happen, which looks once at each tile's count.
 //!
 //! # What it doesn't do
 //!
-//! It runs no grid so far, and reads no text. No event takes time: an order says what came before what, and
-//! nothing of how long it took.
+//! It reads no text. No event takes time: an order says what came before what, and nothing of how long it took.
 #![tactic(auto)]
 
 mod applying;
