@@ -107,8 +107,8 @@ mutual
         binary_of kind ≡ Some op → nat_le least (level op) ≡ true → IsExpression (right_level op) ts right behind →
         IsOperations least (e.Binary op left right line) behind all rest → IsOperations least left (token kind line text ∷ ts) all rest
 
-  -- what stands between binary operators; `not`, `-` and `#` bind more tightly than these. A name may have members and indexes
-  -- behind it, and parentheses are no part of the tree
+  -- what stands between binary operators; `not`, `-` and `#` bind more tightly than these. A name or a call may have
+  -- members and indexes behind it, and parentheses are no part of the tree
   pub data IsOperand : List Token → Expr → List Token → Type 0 where
     nil : {ts rest : List Token} → Is k.Nil ts rest → IsOperand ts e.Nil rest
     yes : {ts rest : List Token} → Is k.True ts rest → IsOperand ts e.True rest

@@ -1,6 +1,6 @@
--- What is open in a form of the grammar. A block, a grouping, a constructor, an operator, a dot, and the bracket of an index and
--- of a call are open from the token that opens them to the end of the innermost part around it: of the block, the grouping, the
--- constructor, the index, the argument, the entry, the statement. A numeral, a name, a comma open nothing.
+-- What is open in a form of the grammar. The token that a block begins with, an operator, a dot, and the bracket that opens a
+-- grouping, a constructor, an index or the arguments of a call stay open to the end of the innermost part around them: a block,
+-- a grouping, a constructor, an index, an argument, an entry, a statement, a definition of the chunk. Other tokens open nothing.
 use Rattle.std.specs.Prelude.{ℕ, ◌+◌, Bool, List, [], ◌∷◌, ◌++◌, Option, Some, None}
 use Rattle.lua_tree.specs.declared.tree.Item.{Item}
 use Rattle.lua_tree.specs.declared.tree.Arm.{Arm}
@@ -48,7 +48,7 @@ open_with before (Part a) = open_with before a
 -- ---- expressions
 
 abbrev mutual
-  -- operators stand open behind it
+  -- its operators, dots and brackets of indexes and calls stay open behind it
   pub in_expression : {least : ℕ} {ts rest : List Token} {a : Expr} → IsExpression least ts a rest → Nesting
   in_expression (expression operand operations) = in_operand operand then in_operations operations
 
@@ -198,6 +198,7 @@ abbrev mutual
   in_more_parameters (last_parameter _) = Opens
   in_more_parameters (another_parameter _ _ more) = Plain then Plain then in_more_parameters more
 
+-- each definition is a part, with nothing open around it
 abbrev pub in_items : {ts rest : List Token} {items : List Item} → AreItems ts items rest → Nesting
 in_items (no_items _) = Plain
 in_items (function _ _ _ names body _ behind more) =

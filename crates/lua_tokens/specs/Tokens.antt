@@ -1,5 +1,5 @@
 -- A text is cut into tokens, from left to right; names, numerals and signs are as long as they can be. Spaces, tabs, line ends and comments
--- part them. What begins no token is a token of the kind `Bad`, which no row takes. Past the end a byte reads as 0.
+-- part them. What begins no token is a token of the kind `Bad`, which no form of the grammar takes. Past the end a byte reads as 0.
 use Rattle.std.specs.Prelude.{ℕ, zero, suc, ◌+◌, ◌-◌, ◌*◌, min, pos, Bool, true, false, not, ◌&&◌, ◌||◌, if◌then◌else◌, ◌==◌, nat_le, List, [], ◌∷◌, ◌++◌, length, take, drop, fold, count_by, slice_index, Option, Some, None, codes}
 use Rattle.std.specs.Char.{is_ascii_digit, is_ascii_alphabetic, is_ascii_alphanumeric}
 use Rattle.std.specs.List.{prefix_len}
@@ -98,7 +98,7 @@ plain kind len = record { kind = kind; text = []; len = len }
 abbrev pub bad : Piece
 bad = plain k.Bad 1
 
--- only a name keeps its bytes
+-- of words, only a name keeps its bytes
 abbrev pub word_of : Kind → List ℕ → Piece
 word_of (k.Name role) word = record { kind = k.Name role; text = word; len = length word }
 word_of kind word = plain kind (length word)
@@ -119,12 +119,11 @@ string_of (Some found) = record { kind = k.Str; text = found.0; len = found.1 + 
 unfoldable pub string_piece : List ℕ → Piece
 string_piece z = string_of (quoted (slice_index z 0) (drop 1 z))
 
--- how many bytes there are up to and with the first `]]`
 abbrev pub one_more : Option ℕ → Option ℕ
 one_more None = None
 one_more (Some n) = Some (n + 1)
 
--- counted from the front
+-- how many bytes there are up to and with the first `]]`
 abbrev pub closing : List ℕ → Option ℕ
 closing [] = None
 closing (b ∷ z) = if b == 93 && slice_index z 0 == 93 then Some 2 else one_more (closing z)
