@@ -9,8 +9,8 @@
 //! # What the layers above use
 //!
 //! The laws, as contracts of functions without a body: the events of a cycle are a legal order
-//! ([`cycles_are_legal`]); there is none exactly at rest ([`rest_has_no_cycle`]); each compute tile makes one step
-//! in a cycle at most, so that a value crosses one node in it at most ([`tiles_act_once`]).
+//! ([`cycles_are_legal`]); there is none exactly at rest ([`rest_has_no_cycle`]); each tile does one thing in a cycle
+//! at most, so that a value crosses one node in it at most ([`tiles_act_once`]).
 //!
 //! # What it doesn't do
 //!
@@ -20,6 +20,7 @@
 
 mod laws;
 mod trace;
+mod turns;
 
 pub use laws::{cycles_are_legal, rest_has_no_cycle, tiles_act_once};
 pub use trace::Trace;
