@@ -4,3 +4,7 @@ pub mod Once
 mod Examples
 mod Kept
 mod Ways
+mod Below
+pub mod Halves
+pub mod Room
+pub mod Same

@@ -18,9 +18,11 @@
 //! project's own, and says nothing of the cycle counts of the game.
 #![tactic(auto)]
 
+mod cycles;
 mod laws;
 mod trace;
 mod turns;
 
+pub use cycles::{cycle, run};
 pub use laws::{cycles_are_legal, rest_has_no_cycle, tiles_act_once};
 pub use trace::Trace;

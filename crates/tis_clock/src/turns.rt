@@ -1,6 +1,6 @@
 //! What a tile does at its turn in a cycle.
 ghost use Rattle.std.specs.Prelude.{◌≡◌, ◌<◌, ◌∷◌, [], length, flat_map};
-ghost use Rattle.std.specs.Option.{option_or};
+ghost use Rattle.tis_base.specs.declared.tiles.Dir.TheVariants.{Down};
 ghost use Rattle.std.specs.List.{find};
 ghost use Rattle.tis_base.specs.Tiles.{opposite as other_side};
 ghost use Rattle.tis_node.specs.NodeView.{node_view};
@@ -154,4 +154,105 @@ fn take_any(
             None => take_any(grid, writing, state, tile, rest),
         },
     }
+}
+
+// Whether a tile was writing when the cycle began.
+fn was_writing(writing: &[bool; TILES], tile: Tile) -> bool
+    ensures { result ≡ kept_at writing.now tile.number }
+{
+    match writing.get(tile.number as usize) {
+        Some(writes) => *writes,
+        None => false,
+    }
+}
+
+/// What a tile does that was ready when the cycle began.
+pub(crate) fn read_or_step(
+    grid: &Grid,
+    writing: &[bool; TILES],
+    state: &State,
+    tile: Tile,
+) -> Option<Event>
+    requires fits { Fits grid.now state.now.state }
+    requires there { tile.number < length grid.now.puzzle.tiles.kinds }
+    ensures { result ≡ cycle.reads_or_steps grid.now (kept_at writing.now) state.now.state tile.number }
+{
+    if was_writing(writing, tile) {
+        return None;
+    }
+    match if_enabled(grid, writing, state, Event::Local(tile)) {
+        Some(stepped) => Some(stepped),
+        None => take_any(
+            grid,
+            writing,
+            state,
+            tile,
+            &[Dir::Left, Dir::Right, Dir::Up, Dir::Down],
+        ),
+    }
+}
+
+// The output whose column ends in this tile takes its value.
+fn give_below(grid: &Grid, state: &State, tile: Tile) -> Option<Event>
+    requires fits { Fits grid.now state.now.state }
+    ensures { result ≡ find (is_enabled grid.now state.now.state) (cycle.to_below grid.now tile.number Down) }
+{
+    let shape = grid.puzzle().tiles.shape();
+    for position in 0..shape.columns {
+        let event = Event::Out(position);
+        if position + shape.columns * (shape.rows - 1) == tile.number && grid.enabled(state, event) {
+            return Some(event);
+        }
+    }
+    None
+}
+
+// What a tile gives in a direction without a reader.
+fn give_toward(grid: &Grid, state: &State, tile: Tile, dir: Dir) -> Option<Event>
+    requires fits { Fits grid.now state.now.state }
+    ensures { result ≡ find (is_enabled grid.now state.now.state) (cycle.ways_to_give grid.now tile.number dir) }
+{
+    let pushed = Event::Push(tile, dir);
+    if grid.enabled(state, pushed) {
+        return Some(pushed);
+    }
+    match dir {
+        Dir::Down => give_below(grid, state, tile),
+        Dir::Left | Dir::Right | Dir::Up => None,
+    }
+}
+
+// What a tile gives in the first of these directions in which it gives anything.
+fn give_any(grid: &Grid, state: &State, tile: Tile, dirs: &[Dir]) -> Option<Event>
+    requires fits { Fits grid.now state.now.state }
+    ensures { result ≡ find (is_enabled grid.now state.now.state) (flat_map (cycle.ways_to_give grid.now tile.number) dirs.now) }
+{
+    match dirs.split_first() {
+        None => None,
+        Some((dir, rest)) => match give_toward(grid, state, tile, *dir) {
+            Some(given) => Some(given),
+            None => give_any(grid, state, tile, rest),
+        },
+    }
+}
+
+/// What a tile gives that was writing when the cycle began.
+pub(crate) fn give_out(
+    grid: &Grid,
+    writing: &[bool; TILES],
+    state: &State,
+    tile: Tile,
+) -> Option<Event>
+    requires fits { Fits grid.now state.now.state }
+    ensures { result ≡ cycle.gives_out grid.now (kept_at writing.now) state.now.state tile.number }
+{
+    if !was_writing(writing, tile) {
+        return None;
+    }
+    give_any(
+        grid,
+        state,
+        tile,
+        &[Dir::Left, Dir::Right, Dir::Up, Dir::Down],
+    )
 }
