@@ -8,3 +8,4 @@ mod Below
 pub mod Halves
 pub mod Room
 pub mod Same
+pub mod Runs
