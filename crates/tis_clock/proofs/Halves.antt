@@ -1,5 +1,5 @@
 -- One tile after the other, in a half of a cycle.
-use Rattle.std.proofs.Common.{◌≡◌, ℕ, suc, ◌+◌, ◌-◌, ◌<◌, ◌≤◌, true, false, cond, Bool, List, [], ◌∷◌, ◌++◌, length, Option, Some, None, refl, sym, ap, subst, ◌∙◌, arith, append_assoc, append-nil, length-append}
+use Rattle.std.proofs.Common.{◌≡◌, ℕ, ◌+◌, ◌-◌, ◌<◌, ◌≤◌, List, [], ◌∷◌, ◌++◌, length, Option, Some, None, refl, sym, ap, ◌∙◌, arith, append_assoc, append-nil, length-append}
 use Rattle.std.specs.List.{range_with_len}
 use Rattle.tis_grid.specs.declared.event.Event.{Event}
 use Rattle.tis_grid.specs.State.{Grid, State}
@@ -44,10 +44,10 @@ module _ (grid : Grid) (choose : State → ℕ → Option Event) where
     trace_is = traced_is ∙ ap (λ t. t ++ acts chosen) done.trace_is ∙ append_assoc before done.given (acts chosen);
     now_is = next_is ∙ ap (λ s. state_after grid s (acts chosen)) done.now_is ∙ sym (state_after_then grid start done.given (acts chosen));
     rest = done.rest ∙ ap (λ tiles. done.given ++ in_turn grid choose now tiles) (next_column count number within)
-      ∙ ap (λ events. done.given ++ events) (in_turn_next now number (columns_from count (number + 1)) chosen is)
-      ∙ sym (append_assoc done.given (acts chosen) (in_turn grid choose (state_after grid now (acts chosen)) (columns_from count (number + 1))))
-      ∙ ap (λ s. (done.given ++ acts chosen) ++ in_turn grid choose s (columns_from count (number + 1))) (sym next_is);
-    few = let more = length-append done.given (acts chosen) in let one = acts_few chosen in omega (arith, more, one, done.few)
+        ∙ ap (λ events. done.given ++ events) (in_turn_next now number (columns_from count (number + 1)) chosen is)
+        ∙ sym (append_assoc done.given (acts chosen) (in_turn grid choose (state_after grid now (acts chosen)) (columns_from count (number + 1))))
+        ∙ ap (λ s. (done.given ++ acts chosen) ++ in_turn grid choose s (columns_from count (number + 1))) (sym next_is);
+    few = let more = length-append done.given (acts chosen) in let one = acts_few chosen in omega (arith, more, one, done.few);
   }
 
   -- all tiles had their turn

@@ -1,11 +1,11 @@
 -- Which tiles are writing, kept in an array.
-use Rattle.std.proofs.Common.{◌≡◌, ◌≢◌, ℕ, zero, suc, ◌+◌, ◌<◌, ◌≤◌, true, false, Bool, List, [], ◌∷◌, length, get_or, replicate, inl, inr, refl, sym, ap, subst, ◌∙◌, arith}
-use Rattle.std.specs.Prelude.{◌⊎◌, slice_set}
+use Rattle.std.proofs.Common.{◌≡◌, ℕ, zero, suc, ◌+◌, ◌<◌, ◌≤◌, false, Bool, List, length, replicate, inl, inr, refl, sym, ap, subst, ◌∙◌, arith}
+use Rattle.std.specs.Prelude.{slice_set}
 use Rattle.std.proofs.lemmas.Bool.{cases_eq, cases_lt}
 use Rattle.std.proofs.lemmas.List.{get_or-set_other, get_or-set_same}
 use Rattle.std.proofs.lemmas.List.{get_or_past}
 use Rattle.tis_asm.specs.Node.{Node, fresh}
-use Rattle.tis_grid.specs.State.{State, node_at}
+use Rattle.tis_grid.specs.State.{State}
 use Rattle.tis_clock.specs.Cycle.{is_writing, writers}
 use Rattle.tis_clock.specs.Turns.{kept_at, Keeps}
 

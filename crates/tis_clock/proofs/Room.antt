@@ -1,6 +1,6 @@
 -- The room of the outputs, tile by tile.
-use Rattle.std.proofs.Common.{◌≡◌, ℕ, ◌+◌, ◌-◌, ◌<◌, ◌≤◌, true, Bool, List, [], ◌∷◌, ◌++◌, Option, Some, None, inl, inr, refl, sym, ap, subst, ◌∙◌, arith}
-use Rattle.std.specs.Prelude.{◌⊎◌, ◌&&◌, ◌==◌, IsTrue, IfSome, get_or, unwrap_or, option_map, not, flat_map}
+use Rattle.std.proofs.Common.{◌≡◌, ℕ, ◌+◌, ◌-◌, ◌≤◌, Bool, List, ◌∷◌, Option, Some, None, inl, inr, refl, sym, ap, subst, ◌∙◌, arith}
+use Rattle.std.specs.Prelude.{◌&&◌, ◌==◌, IsTrue, IfSome, unwrap_or, option_map, not, flat_map}
 use Rattle.std.specs.List.{find, range_with_len}
 use Rattle.std.proofs.lemmas.Bool.{cases_eq, eqb-true, and_parts}
 use Rattle.std.proofs.lemmas.List.{get_or-set_other}
@@ -139,12 +139,11 @@ one_left grid tile old new (Meet at dir) left gives = ((λ position behind. left
 one_left grid tile old new (In at) left gives = ((λ position behind. left.0 position (omega (arith, behind))), left.1)
 one_left grid tile old new (Out at) left gives =
     let other : (position : ℕ) → (position ≡ at → ⊥) → spare_at (spares_after new (Out at)) position ≡ spare_at new position =
-      λ position apart. ap (λ (o : Option ℕ). unwrap_or o 0) (get_or-set_other new at position (option_map (λ spare. spare - 1) (output_spare new at)) None apart) in
-    (
+    λ position apart. ap (λ (o : Option ℕ). unwrap_or o 0) (get_or-set_other new at position (option_map (λ spare. spare - 1) (output_spare new at)) None apart) in (
       (λ position behind.
-        let same = other position (λ is. let bottom = ap (bottom_of grid) is in omega (arith, behind, gives, bottom)) in
-        let had = left.0 position (omega (arith, behind)) in
-        omega (arith, same, had)),
+          let same = other position (λ is. let bottom = ap (bottom_of grid) is in omega (arith, behind, gives, bottom)) in
+          let had = left.0 position (omega (arith, behind)) in
+          omega (arith, same, had)),
       (λ position. elim (cases_eq position at) [
         | inl is ↦
             let here = ap (bottom_of grid) is in
@@ -152,7 +151,7 @@ one_left grid tile old new (Out at) left gives =
             let less = room_falls new (Out at) (spare_at new position) position (omega arith) in
             omega (arith, had, less)
         | inr apart ↦ let same = other position apart in let had = left.1 position in omega (arith, same, had)
-      ])
+      ]),
     )
 one_left grid tile old new (Push at dir) left gives = ((λ position behind. left.0 position (omega (arith, behind))), left.1)
 one_left grid tile old new (Pop at dir) left gives = ((λ position behind. left.0 position (omega (arith, behind))), left.1)

@@ -1,5 +1,5 @@
 -- A cycle of which it is kept which tiles were writing.
-use Rattle.std.proofs.Common.{◌≡◌, ℕ, ◌+◌, ◌<◌, ◌≤◌, true, false, cond, Bool, List, [], ◌∷◌, ◌++◌, Option, Some, None, refl, sym, ap, ◌∙◌}
+use Rattle.std.proofs.Common.{◌≡◌, ℕ, cond, Bool, List, [], ◌∷◌, ◌++◌, Option, Some, None, refl, sym, ap, ◌∙◌}
 use Rattle.std.specs.Prelude.{◌&&◌, not, flat_map}
 use Rattle.std.specs.List.{find}
 use Rattle.tis_grid.specs.declared.event.Event.{Event}
@@ -39,9 +39,9 @@ module _ (grid : Grid) (one other : State → ℕ → Option Event) (same : (now
   turns_same (tile ∷ tiles) now =
       ap (λ (choice : Option Event). and_then grid now choice (λ next. in_turn grid one next tiles)) (same now tile)
       ∙ elim (other now tile) as (λ choice. and_then grid now choice (λ next. in_turn grid one next tiles) ≡ and_then grid now choice (λ next. in_turn grid other next tiles)) [
-          | None ↦ turns_same tiles now
-          | Some event ↦ ap (λ events. event ∷ events) (turns_same tiles (after_event grid now event))
-        ]
+        | None ↦ turns_same tiles now
+        | Some event ↦ ap (λ events. event ∷ events) (turns_same tiles (after_event grid now event))
+      ]
 
 -- the two halves are the cycle
 pub record Whole (grid : Grid) (state : State) (trace : List Event) (next : State) : Type 0 where
@@ -54,13 +54,13 @@ pub is_whole : (grid : Grid) (kept : List Bool) (state middle next : State) (fir
     next ≡ state_after grid middle (in_turn grid (gives_out grid (kept_at kept)) middle (all_tiles grid)) → Whole grid state trace next
 is_whole grid kept state middle next first trace keeps first_is middle_is trace_is next_is =
     let one : first ≡ first_half grid state =
-      first_is ∙ turns_same grid (reads_or_steps grid (kept_at kept)) (reads_or_steps grid (writers state)) (reads_same grid (kept_at kept) (writers state) keeps) (all_tiles grid) state in
+    first_is ∙ turns_same grid (reads_or_steps grid (kept_at kept)) (reads_or_steps grid (writers state)) (reads_same grid (kept_at kept) (writers state) keeps) (all_tiles grid) state in
     let behind : middle ≡ state_after grid state (first_half grid state) = middle_is ∙ ap (state_after grid state) one in
     let two : in_turn grid (gives_out grid (kept_at kept)) middle (all_tiles grid) ≡ second_half grid state (state_after grid state (first_half grid state)) =
-      turns_same grid (gives_out grid (kept_at kept)) (gives_out grid (writers state)) (gives_same grid (kept_at kept) (writers state) keeps) (all_tiles grid) middle
-      ∙ ap (λ s. in_turn grid (gives_out grid (writers state)) s (all_tiles grid)) behind in
+    turns_same grid (gives_out grid (kept_at kept)) (gives_out grid (writers state)) (gives_same grid (kept_at kept) (writers state) keeps) (all_tiles grid) middle
+    ∙ ap (λ s. in_turn grid (gives_out grid (writers state)) s (all_tiles grid)) behind in
     record {
       events = trace_is ∙ ap (λ (events : List Event). events ++ in_turn grid (gives_out grid (kept_at kept)) middle (all_tiles grid)) one ∙ ap (λ (events : List Event). first_half grid state ++ events) two;
       after = next_is ∙ ap (state_after grid middle) two ∙ ap (λ s. state_after grid s (second_half grid state (state_after grid state (first_half grid state)))) behind
-        ∙ sym (state_after_then grid state (first_half grid state) (second_half grid state (state_after grid state (first_half grid state))))
+          ∙ sym (state_after_then grid state (first_half grid state) (second_half grid state (state_after grid state (first_half grid state))));
     }

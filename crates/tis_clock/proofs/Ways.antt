@@ -1,21 +1,12 @@
 -- What is found among ways, piece by piece.
-use Rattle.std.proofs.Common.{◌≡◌, ℕ, true, false, cond, Bool, List, [], ◌∷◌, ◌++◌, Option, Some, None, refl, sym, ap, ◌∙◌}
-use Rattle.std.specs.Prelude.{◌&&◌}
+use Rattle.std.proofs.Common.{◌≡◌, true, false, cond, Bool, List, [], ◌∷◌, ◌++◌, Some, None, refl, ap, ◌∙◌}
 use Rattle.std.specs.List.{find}
 use Rattle.std.specs.Option.{option_or}
-use Rattle.tis_base.specs.Tiles.{opposite}
-use Rattle.tis_base.specs.declared.tiles.Dir.{Dir}
-use Rattle.tis_grid.specs.declared.event.Event.{Event}
-use Rattle.tis_grid.specs.declared.event.Event.TheVariants.{Meet}
-use Rattle.tis_grid.specs.State.{Grid, State}
-use Rattle.tis_grid.specs.Events.{is_enabled, next_tile}
-use Rattle.tis_clock.specs.Cycle.{from_neighbour, first_way}
 
 -- in the first part, or else in the other
 pub found_in_parts : {X : Type 0} (test : X → Bool) (one other : List X) → find test (one ++ other) ≡ option_or (find test one) (find test other)
 found_in_parts test [] other = refl
 found_in_parts test (x ∷ one) other = elim (test x) as (λ b. cond b (Some x) (find test (one ++ other)) ≡ option_or (cond b (Some x) (find test one)) (find test other)) [ true ↦ refl | false ↦ found_in_parts test one other ]
-
 
 -- an event of the first part is found
 pub found_first : {X : Type 0} (test : X → Bool) (one other : List X) (x : X) → find test one ≡ Some x → find test (one ++ other) ≡ Some x

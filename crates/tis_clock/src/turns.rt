@@ -65,12 +65,7 @@ fn gives_old(writing: &[bool; TILES], event: Event) -> bool
 }
 
 // An event, where it can happen and takes no value that was first written in this cycle.
-fn if_enabled(
-    grid: &Grid,
-    writing: &[bool; TILES],
-    state: &State,
-    event: Event,
-) -> Option<Event>
+fn if_enabled(grid: &Grid, writing: &[bool; TILES], state: &State, event: Event) -> Option<Event>
     requires { Fits grid.now state.now.state }
     ensures { result ≡ cycle.first_way grid.now (kept_at writing.now) state.now.state (event ∷ []) }
 {
@@ -200,7 +195,9 @@ fn give_below(grid: &Grid, state: &State, tile: Tile) -> Option<Event>
     let shape = grid.puzzle().tiles.shape();
     for position in 0..shape.columns {
         let event = Event::Out(position);
-        if position + shape.columns * (shape.rows - 1) == tile.number && grid.enabled(state, event) {
+        if position + shape.columns * (shape.rows - 1) == tile.number
+            && grid.enabled(state, event)
+        {
             return Some(event);
         }
     }

@@ -1,10 +1,10 @@
 -- Each tile takes its turn.
-use Rattle.std.proofs.Common.{◌≡◌, ℕ, [], ◌<◌, ◌≤◌, length, sym, ap, subst, ◌∙◌, arith}
+use Rattle.std.proofs.Common.{ℕ, [], ◌<◌, ◌≤◌, length, sym, subst, ◌∙◌, arith}
 use Rattle.tis_grid.specs.declared.event.Event.{Event}
 use Rattle.tis_grid.specs.Events.{IsEnabled}
 use Rattle.tis_grid.specs.HeldState.{HasRoom}
-use Rattle.tis_clock.specs.Cycle.{reads_or_steps, state_after}
-use Rattle.tis_clock.specs.Turns.{kept_at, room_behind}
+use Rattle.tis_clock.specs.Cycle.{reads_or_steps}
+use Rattle.tis_clock.specs.Turns.{kept_at}
 use Rattle.tis_clock.proofs.Halves.{one_more, whole}
 use Rattle.tis_clock.proofs.Room.{GivesNoOutput, if_chosen, reads_can, reads_give_none, no_room_asked, room_stays}
 use Rattle.tis_clock.proofs.cycles.first_half.Goals as goal
@@ -31,7 +31,7 @@ loop-number-preserved c =
       fits = c.act.ensures.fits;
       spares = c.act.ensures.spares ∙ room_stays c.loop-number.state.spares c.read_or_step-chosen.result none ∙ c.loop-number.invariant.spares;
       done = one_more grid (reads_or_steps grid was) c.args.state.now.state [] (length grid.puzzle.tiles.kinds) c.loop-number.number c.loop-number.trace c.loop-number.state.state c.read_or_step-chosen.result c.act.new.trace c.act.new.state.state
-        c.loop-number.invariant.done (subst (λ (n : ℕ). c.loop-number.number < n) c.tiles_of-number-end.ensures.tiles c.loop-number-test.true) c.read_or_step-chosen.ensures c.act.ensures.trace c.act.ensures.state
+          c.loop-number.invariant.done (subst (λ (n : ℕ). c.loop-number.number < n) c.tiles_of-number-end.ensures.tiles c.loop-number-test.true) c.read_or_step-chosen.ensures c.act.ensures.trace c.act.ensures.state;
     }
 
 pub returns-clause-trace : goal.returns-clause-trace

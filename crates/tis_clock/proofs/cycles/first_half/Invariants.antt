@@ -10,5 +10,5 @@ abbrev pub invariant-loop-number : goal.invariant-loop-number
 invariant-loop-number l = record {
   fits : Fits l.grid l.state.state;
   spares : l.state.spares ≡ l.initial.state.spares;
-  done : Done l.grid (reads_or_steps l.grid (kept_at l.writing)) l.initial.state.state [] (length l.grid.puzzle.tiles.kinds) l.number l.trace l.state.state
+  done : Done l.grid (reads_or_steps l.grid (kept_at l.writing)) l.initial.state.state [] (length l.grid.puzzle.tiles.kinds) l.number l.trace l.state.state;
 }

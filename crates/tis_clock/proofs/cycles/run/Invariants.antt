@@ -14,5 +14,5 @@ invariant-loop-done l = record {
   led : l.state.state ≡ after_cycles l.grid l.initial.state.state l.done;
   works : WorksBefore l.grid l.initial.state.state l.done;
   room : (position : ℕ) → IsTrue (has_output l.grid.puzzle.outputs position) → l.cycles - l.done ≤ spare_at l.state.spares position;
-  lowers : LowersBy l.done l.initial.state.spares l.state.spares
+  lowers : LowersBy l.done l.initial.state.spares l.state.spares;
 }

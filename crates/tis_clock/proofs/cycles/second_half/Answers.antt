@@ -1,10 +1,10 @@
 -- Each tile takes its turn.
-use Rattle.std.proofs.Common.{◌≡◌, ℕ, [], ◌++◌, ◌+◌, ◌<◌, ◌≤◌, length, sym, ap, subst, ◌∙◌, arith, List, Option}
+use Rattle.std.proofs.Common.{ℕ, ◌++◌, ◌+◌, ◌<◌, ◌≤◌, length, sym, ap, subst, ◌∙◌, arith, List}
 use Rattle.tis_grid.specs.declared.event.Event.{Event}
 use Rattle.tis_grid.specs.Events.{IsEnabled}
 use Rattle.tis_grid.specs.HeldState.{HasRoom}
 use Rattle.tis_clock.specs.Cycle.{gives_out, state_after}
-use Rattle.tis_clock.specs.Turns.{kept_at, room_behind}
+use Rattle.tis_clock.specs.Turns.{kept_at}
 use Rattle.tis_clock.proofs.Halves.{one_more, whole}
 use Rattle.tis_clock.proofs.Room.{GivesBelow, IsLeft, if_chosen, gives_can, gives_below, room_below, still_left}
 use Rattle.tis_clock.proofs.cycles.second_half.Goals as goal
@@ -22,7 +22,7 @@ act-requires-clause-room c =
     let choice = gives_out grid was c.loop-number.state.state c.loop-number.number in
     if_chosen (λ (event : Event). HasRoom c.loop-number.state.spares event) c.give_out-chosen.result choice c.give_out-chosen.ensures
     (λ event is. room_below grid c.loop-number.state.state c.loop-number.number c.args.state.now.spares c.loop-number.state.spares event c.requires.room c.loop-number.invariant.left
-      (gives_can grid was c.loop-number.state.state c.loop-number.number event is) (gives_below grid was c.loop-number.state.state c.loop-number.number event is))
+    (gives_can grid was c.loop-number.state.state c.loop-number.number event is) (gives_below grid was c.loop-number.state.state c.loop-number.number event is))
 
 pub loop-number-preserved : goal.loop-number-preserved
 loop-number-preserved c =
@@ -33,9 +33,9 @@ loop-number-preserved c =
     record {
       fits = c.act.ensures.fits;
       left = subst (IsLeft grid (c.loop-number.number + 1) c.args.state.now.spares) (sym c.act.ensures.spares)
-        (still_left grid c.loop-number.number c.args.state.now.spares c.loop-number.state.spares c.give_out-chosen.result c.loop-number.invariant.left gives);
+          (still_left grid c.loop-number.number c.args.state.now.spares c.loop-number.state.spares c.give_out-chosen.result c.loop-number.invariant.left gives);
       done = one_more grid (gives_out grid was) c.args.state.now.state c.args.trace.now (length grid.puzzle.tiles.kinds) c.loop-number.number c.loop-number.trace c.loop-number.state.state c.give_out-chosen.result c.act.new.trace c.act.new.state.state
-        c.loop-number.invariant.done (subst (λ (n : ℕ). c.loop-number.number < n) c.tiles_of-number-end.ensures.tiles c.loop-number-test.true) c.give_out-chosen.ensures c.act.ensures.trace c.act.ensures.state
+          c.loop-number.invariant.done (subst (λ (n : ℕ). c.loop-number.number < n) c.tiles_of-number-end.ensures.tiles c.loop-number-test.true) c.give_out-chosen.ensures c.act.ensures.trace c.act.ensures.state;
     }
 
 pub returns-clause-trace : goal.returns-clause-trace

@@ -1,5 +1,5 @@
 -- In this direction, or else in those behind it.
-use Rattle.std.proofs.Common.{◌≡◌, List, sym, ap, ◌∙◌, Bool}
+use Rattle.std.proofs.Common.{List, sym, ap, ◌∙◌, Bool}
 use Rattle.std.specs.Prelude.{flat_map}
 use Rattle.std.specs.List.{find}
 use Rattle.tis_base.specs.declared.tiles.Dir.{Dir}
@@ -14,7 +14,7 @@ returns-in-Some-give_toward depth c =
     let test : Event → Bool = is_enabled c.args.grid.now c.args.state.now.state in
     let ways : Dir → List Event = cycle.ways_to_give c.args.grid.now c.args.tile.number in
     sym (ap (λ (dirs : List Dir). find test (flat_map ways dirs)) c.in-Some.ensures.cases.0
-      ∙ found_first test (ways c.in-Some.dir.now) (flat_map ways c.in-Some.rest.now) c.in-Some-give_toward.given (sym c.give_toward.ensures ∙ c.in-Some-give_toward.is))
+    ∙ found_first test (ways c.in-Some.dir.now) (flat_map ways c.in-Some.rest.now) c.in-Some-give_toward.given (sym c.give_toward.ensures ∙ c.in-Some-give_toward.is))
 
 pub returns-in-None-give_toward : goal.returns-in-None-give_toward
 returns-in-None-give_toward depth c =
@@ -22,4 +22,4 @@ returns-in-None-give_toward depth c =
     let ways : Dir → List Event = cycle.ways_to_give c.args.grid.now c.args.tile.number in
     c.give_any.ensures
     ∙ sym (ap (λ (dirs : List Dir). find test (flat_map ways dirs)) c.in-Some.ensures.cases.0
-      ∙ found_later test (ways c.in-Some.dir.now) (flat_map ways c.in-Some.rest.now) (sym c.give_toward.ensures ∙ c.in-None-give_toward.is))
+    ∙ found_later test (ways c.in-Some.dir.now) (flat_map ways c.in-Some.rest.now) (sym c.give_toward.ensures ∙ c.in-None-give_toward.is))

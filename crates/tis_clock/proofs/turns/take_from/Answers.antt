@@ -1,5 +1,5 @@
 -- Of the three the first that can happen.
-use Rattle.std.proofs.Common.{◌≡◌, Some, None, [], ◌∷◌, ◌++◌, List, sym, ap, ◌∙◌, Bool}
+use Rattle.std.proofs.Common.{[], ◌∷◌, sym, ◌∙◌, Bool}
 use Rattle.std.specs.Prelude.{◌&&◌}
 use Rattle.tis_grid.specs.declared.event.Event.{Event}
 use Rattle.tis_grid.specs.declared.event.Event.TheVariants.{Pop}
@@ -18,11 +18,11 @@ pub returns-in-Some-if_enabled : goal.returns-in-Some-if_enabled
 returns-in-Some-if_enabled c =
     let test : Event → Bool = λ event. cycle.gives_old (kept_at c.args.writing.now) event && is_enabled c.args.grid.now c.args.state.now.state event in
     sym (found_later test (cycle.from_neighbour (next_tile c.args.grid.now c.args.tile.number c.args.dir) c.args.dir) (Pop c.args.tile c.args.dir ∷ cycle.from_above c.args.tile.number c.args.dir) (sym c.from_neighbour.ensures ∙ c.in-None.is)
-      ∙ found_first test (Pop c.args.tile c.args.dir ∷ []) (cycle.from_above c.args.tile.number c.args.dir) c.in-Some-if_enabled.popped (sym c.if_enabled.ensures ∙ c.in-Some-if_enabled.is))
+    ∙ found_first test (Pop c.args.tile c.args.dir ∷ []) (cycle.from_above c.args.tile.number c.args.dir) c.in-Some-if_enabled.popped (sym c.if_enabled.ensures ∙ c.in-Some-if_enabled.is))
 
 pub returns-in-None-if_enabled : goal.returns-in-None-if_enabled
 returns-in-None-if_enabled c =
     let test : Event → Bool = λ event. cycle.gives_old (kept_at c.args.writing.now) event && is_enabled c.args.grid.now c.args.state.now.state event in
     c.from_above.ensures
     ∙ sym (found_later test (cycle.from_neighbour (next_tile c.args.grid.now c.args.tile.number c.args.dir) c.args.dir) (Pop c.args.tile c.args.dir ∷ cycle.from_above c.args.tile.number c.args.dir) (sym c.from_neighbour.ensures ∙ c.in-None.is)
-      ∙ found_later test (Pop c.args.tile c.args.dir ∷ []) (cycle.from_above c.args.tile.number c.args.dir) (sym c.if_enabled.ensures ∙ c.in-None-if_enabled.is))
+    ∙ found_later test (Pop c.args.tile c.args.dir ∷ []) (cycle.from_above c.args.tile.number c.args.dir) (sym c.if_enabled.ensures ∙ c.in-None-if_enabled.is))

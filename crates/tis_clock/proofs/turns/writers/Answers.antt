@@ -1,6 +1,6 @@
 -- Each tile is kept in its turn.
 use Rattle.std.proofs.Common.{◌≡◌, ◌*◌, arith, refl, ap, ◌∙◌, length-set}
-use Rattle.tis_clock.proofs.Kept.{kept_more, others_kept, all_kept, none_kept}
+use Rattle.tis_clock.proofs.Kept.{kept_more, others_kept, none_kept}
 use Rattle.tis_base.specs.declared.tiles.Shape.{Shape}
 use Rattle.tis_asm.specs.Node.{Node}
 use Rattle.tis_clock.specs.Cycle.{is_writing}
@@ -19,5 +19,5 @@ loop-number-preserved c =
     record {
       len = length-set c.loop-number.writing c.loop-number.number c.is_writing.result ∙ c.loop-number.invariant.len;
       done = kept_more c.loop-number.writing c.args.state.now.state c.loop-number.number c.is_writing.result (omega (arith, tiles, c.loop-number.invariant.len)) (c.is_writing.ensures ∙ ap (λ (n : Node). is_writing n.mode) c.node.ensures) c.loop-number.invariant.done;
-      others = others_kept c.loop-number.writing c.loop-number.number c.is_writing.result c.loop-number.invariant.others
+      others = others_kept c.loop-number.writing c.loop-number.number c.is_writing.result c.loop-number.invariant.others;
     }

@@ -8,5 +8,5 @@ abbrev pub invariant-loop-number : goal.invariant-loop-number
 invariant-loop-number l = record {
   len : length l.writing ≡ 48;
   done : (tile : ℕ) → tile < l.number → kept_at l.writing tile ≡ writers l.state.state tile;
-  others : (tile : ℕ) → l.number ≤ tile → kept_at l.writing tile ≡ false
+  others : (tile : ℕ) → l.number ≤ tile → kept_at l.writing tile ≡ false;
 }
