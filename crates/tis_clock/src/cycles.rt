@@ -1,5 +1,5 @@
 //! A grid, cycle by cycle.
-ghost use Rattle.std.specs.Prelude.{◌≡◌, ◌≤◌, ◌<◌, ◌++◌, [], length, IfSome};
+ghost use Rattle.std.specs.Prelude.{◌≡◌, ◌≤◌, ◌<◌, ◌++◌, [], length, IfSome, IfOk, OnOk};
 ghost use Rattle.tis_grid.specs.Orders.{Fits};
 ghost use Rattle.tis_grid.specs.Events.{IsEnabled};
 ghost use Rattle.tis_grid.specs.HeldState.{HasRoom, HasRoomEach};
@@ -9,7 +9,7 @@ ghost use Rattle.tis_clock.specs.Turns.{kept_at, acts, room_behind, HasRoomForOn
 
 use crate::trace::Trace;
 use crate::turns::{TILES, give_out, read_or_step, writers};
-use tis_base::Tile;
+use tis_base::{NoMemory, Tile};
 use tis_grid::{Ended, Event, Grid, State};
 
 // Applies what a tile chose, where it chose anything, and writes it down.
@@ -109,5 +109,39 @@ pub fn run(grid: &Grid, state: &mut State, cycles: u64) -> Ended
         Ended::Rest { done: cycles }
     } else {
         Ended::Limit { done: cycles }
+    }
+}
+
+// Makes room for one more value of each output, where one has none left.
+fn make_room(state: &mut State) -> Result<(), NoMemory>
+    ensures state { state.new.state ≡ state.old.state }
+    ensures room { OnOk result (HasRoomEach state.new 1) }
+{
+    if 0 < state.spare() {
+        return Ok(());
+    }
+    state.reserve(1)
+}
+
+/// The same, and makes room for more values of the outputs where one has none left. Where memory runs out, some of
+/// the cycles were done.
+pub fn run_making_room(grid: &Grid, state: &mut State, cycles: u64) -> Result<Ended, NoMemory>
+    requires { Fits grid.now state.old.state }
+    ensures ended { IfOk result (λ ended. EndsAs grid.now state.old.state cycles ended state.new.state) }
+    ensures fits { Fits grid.now state.new.state }
+{
+    // The call tells the proof that this is a grid.
+    grid.puzzle();
+    let mut trace = Trace::new();
+    for done in 0..cycles {
+        make_room(state)?;
+        if cycle(grid, state, &mut trace) == 0 {
+            return Ok(Ended::Rest { done });
+        }
+    }
+    if grid.at_rest(state) {
+        Ok(Ended::Rest { done: cycles })
+    } else {
+        Ok(Ended::Limit { done: cycles })
     }
 }

@@ -23,6 +23,6 @@ mod laws;
 mod trace;
 mod turns;
 
-pub use cycles::{cycle, run};
+pub use cycles::{cycle, run, run_making_room};
 pub use laws::{cycles_are_legal, rest_has_no_cycle, tiles_act_once};
 pub use trace::Trace;
