@@ -61,16 +61,18 @@ module _ (grid : Grid) (is_grid : IsGrid grid) where
   -- the end of a run, as it was told
   pub clocked_so : (most : ℕ) (end : State) (ended : Ended) → EndsAs grid (start grid) most ended end → (completion : Completion) × (clocked most grid ≡ Makes completion (ended_text ended grid.puzzle end)) × (ended_status ended ≡ completion_status completion)
   clocked_so most end (Rest done) ends =
-      let (within, is, rest, works) = ends in
-      (AllDone,
+      let (within, is, rest, works) = ends in (
+        AllDone,
         rests_behind 0 done most (start grid) within (subst (IsAtRest grid) is rest) works
-        ∙ ap (λ n. Makes AllDone (ended_text (Rest n) grid.puzzle (after_cycles grid (start grid) done))) (from_none done)
-        ∙ ap (λ s. Makes AllDone (ended_text (Rest done) grid.puzzle s)) (sym is),
-        refl)
+            ∙ ap (λ n. Makes AllDone (ended_text (Rest n) grid.puzzle (after_cycles grid (start grid) done))) (from_none done)
+            ∙ ap (λ s. Makes AllDone (ended_text (Rest done) grid.puzzle s)) (sym is),
+        refl,
+      )
   clocked_so most end (Limit done) ends =
-      let (all, is, works) = ends in
-      (Limited done,
+      let (all, is, works) = ends in (
+        Limited done,
         works_behind 0 most (start grid) (subst (WorksBefore grid (start grid)) (let one : most + 1 ≡ suc most = omega arith in one) works)
-        ∙ ap (λ n. Makes (Limited n) (ended_text (Limit n) grid.puzzle (after_cycles grid (start grid) most))) (from_none most ∙ sym all)
-        ∙ ap (λ s. Makes (Limited done) (ended_text (Limit done) grid.puzzle s)) (sym is),
-        refl)
+            ∙ ap (λ n. Makes (Limited n) (ended_text (Limit n) grid.puzzle (after_cycles grid (start grid) most))) (from_none most ∙ sym all)
+            ∙ ap (λ s. Makes (Limited done) (ended_text (Limit done) grid.puzzle s)) (sym is),
+        refl,
+      )
