@@ -166,8 +166,13 @@ fn a_grid_runs_by_the_clock(rt: HostRuntime) -> Result<(), Fail> {
         ),
     ] {
         let mut out = MemSink::honest(rt.alloc());
-        let words = ["run", "s", "g", "0", cycles].as_slice();
-        let got = answer(rt.alloc(), words, (save, grid, b"".as_slice()), 9, &mut out)?;
+        let got = answer(
+            rt.alloc(),
+            &["run", "s", "g", "0", cycles],
+            (save, grid, b"".as_slice()),
+            9,
+            &mut out,
+        )?;
         assert_eq!(rt; got, status);
         assert_eq!(rt; out.written(), report);
     }
