@@ -4,7 +4,7 @@ use Rattle.std.specs.Str.{bytes_eq}
 
 -- the word of a command
 abbrev pub is_command : List ℕ → Bool
-is_command word = bytes_eq word (codes "compile") || (bytes_eq word (codes "order") || bytes_eq word (codes "replay"))
+is_command word = bytes_eq word (codes "compile") || (bytes_eq word (codes "run") || (bytes_eq word (codes "order") || bytes_eq word (codes "replay")))
 
 -- the text for these words, of a help and a version: the help for `--help` alone and behind the word of a command, the version for `--version` alone, and else none
 abbrev pub page_of : List ℕ → List ℕ → List (List ℕ) → Option (List ℕ)

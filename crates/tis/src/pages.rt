@@ -12,21 +12,24 @@ pub const HELP: &str = "\
 tis: compiles networks of processes to programs for the TIS-100, and runs saves
 
 tis compile NET SAVE   compiles the network in the file NET to a save in the file SAVE
+tis run SAVE SPEC SEED CYCLES
+                       runs the save in the file SAVE over the grid text in the file SPEC, cycle
+                       by cycle, up to CYCLES of them, and prints a report
 tis order SAVE SPEC SEED ORDERSEED LIMIT
-                       runs the save in the file SAVE over the grid text in the file SPEC, in an
-                       order that is drawn with ORDERSEED, up to LIMIT events, and prints a report
+                       runs it in an order that is drawn with ORDERSEED, up to LIMIT events, and
+                       prints a report
 tis replay SAVE SPEC SEED EVENTS
                        runs it by the events in the file EVENTS, and prints a report
 tis --help             prints this text, as tis compile --help and the like do
 tis --version          prints the version
 
-SEED and ORDERSEED are numbers below 2^64, and LIMIT is one up to 10000000. SEED is for
-specifications that are drawn; a grid text is the same for each.
+SEED and ORDERSEED are numbers below 2^64, and CYCLES and LIMIT are numbers up to 10000000. SEED
+is for specifications that are drawn; a grid text is the same for each.
 
 It ends with 0 where all was done, 2 where the words are no command, 3 where a text was refused or
 an event can't happen in its turn, 4 where a file isn't there, 5 where a file can't be read or
-written, 6 where standard output failed, 7 where memory ran out, and 8 where LIMIT events have
-happened and more can. Where it isn't 0, a line on standard error says why.
+written, 6 where standard output failed, 7 where memory ran out, and 8 where CYCLES cycles were done
+or LIMIT events have happened, and more can. Where it isn't 0, a line on standard error says why.
 ";
 
 /// The program's name and version.
@@ -36,7 +39,7 @@ pub const VERSION: &str = "tis 0.1.0\n";
 fn is_command(word: &str) -> bool
     ensures { result ≡ pages.is_command word.now }
 {
-    word == "compile" || word == "order" || word == "replay"
+    word == "compile" || word == "run" || word == "order" || word == "replay"
 }
 
 /// What the program prints for these words, where they are no command of the tool.

@@ -6,8 +6,8 @@ use Rattle.tis_cli.specs.declared.status.Status.{Status}
 use Rattle.tis_cli.specs.declared.status.Status.TheVariants.{Done, Words, Refused, Missing, StoreFault, SinkFault, NoMemory, Limit}
 use Rattle.tis_cli.specs.declared.runs.Run.{Run}
 use Rattle.tis_cli.specs.Answers.{Answer, Refuses, Makes}
-use Rattle.tis_cli.specs.Commands.{Command, Order, Replay, fetched, ComesTo}
-use Rattle.tis_cli.specs.Runs.{order_answer, replay_answer}
+use Rattle.tis_cli.specs.Commands.{Command, Run as ByClock, Order, Replay, fetched, ComesTo}
+use Rattle.tis_cli.specs.Runs.{run_answer, order_answer, replay_answer}
 use Rattle.tis_cli.specs.Ends.{Ends}
 use Rattle.tis_cli.specs.Outcomes.{texts_under, with_first, AreFetched, Runs}
 use Rattle.tis_cli.proofs.Explained.{told_is}
@@ -33,6 +33,13 @@ told_under : (told now : Option Texts) (name text : List ℕ) → now ≡ told �
 told_under told now name text same fetched texts is = told_is now (λ (t : Texts). text_at t name ≡ Some text) fetched texts (same ∙ is)
 
 -- two texts that were fetched
+pub clock_runs : (told second : Option Texts) (save spec saved read : List ℕ) (saved_seen read_seen : List ℕ) (seed cycles : ℕ) (result : Result Run Status) → second ≡ told → IfSome told (λ texts. text_at texts save ≡ Some saved) → IfSome second (λ texts. text_at texts spec ≡ Some read) → saved_seen ≡ saved → read_seen ≡ read → Ends result (run_answer saved_seen read_seen cycles) → Runs (ByClock save spec seed cycles) told result
+clock_runs told second save spec saved read saved_seen read_seen seed cycles result stay first next saved_is read_is ends =
+    comes_to_run (ByClock save spec seed cycles) told (saved ∷ read ∷ []) (run_answer saved_seen read_seen cycles) result
+    (λ texts is. one_more texts save saved (spec ∷ []) (read ∷ []) (told_under told told save saved refl first texts is) (one_more texts spec read [] [] (told_under told second spec read stay next texts is) refl))
+    (λ other same. same ∙ ap (λ (b : List ℕ). run_answer b read_seen cycles) saved_is ∙ ap (λ (b : List ℕ). run_answer saved b cycles) read_is)
+    ends
+
 pub order_runs : (told second : Option Texts) (save spec saved read : List ℕ) (saved_seen read_seen : List ℕ) (seed order_seed limit : ℕ) (result : Result Run Status) → second ≡ told → IfSome told (λ texts. text_at texts save ≡ Some saved) → IfSome second (λ texts. text_at texts spec ≡ Some read) → saved_seen ≡ saved → read_seen ≡ read → Ends result (order_answer saved_seen read_seen order_seed limit) → Runs (Order save spec seed order_seed limit) told result
 order_runs told second save spec saved read saved_seen read_seen seed order_seed limit result stay first next saved_is read_is ends =
     comes_to_run (Order save spec seed order_seed limit) told (saved ∷ read ∷ []) (order_answer saved_seen read_seen order_seed limit) result

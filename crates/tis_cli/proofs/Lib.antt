@@ -4,3 +4,4 @@ pub mod Examples
 pub mod Putting
 pub mod RunAnswers
 pub mod Fetching
+mod ClockAnswers

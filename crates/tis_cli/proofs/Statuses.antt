@@ -8,7 +8,7 @@ use Rattle.net_column.specs.Net.{Net}
 use Rattle.net_column.specs.Compiled.{compiled}
 use Rattle.tis_save.specs.Writing.{save_text}
 use Rattle.tis_cli.specs.Answers.{Completion, AllDone, Limited, Stopped, Answer, Refuses, Makes, Destination, Kept, Put, answer_status}
-use Rattle.tis_cli.specs.Commands.{Command, Compile, Order, Replay, OrdersTo, ReplaysTo, command_of, fetched, destination_of, CompilesTo, ComesTo, AnswersAreOne}
+use Rattle.tis_cli.specs.Commands.{Command, Compile, Run, Order, Replay, RunsTo, OrdersTo, ReplaysTo, command_of, fetched, destination_of, CompilesTo, ComesTo, AnswersAreOne}
 use Rattle.tis_cli.specs.Outcomes.{IsCalled, PutsBytes, texts_under, World, IsOfAnswer, IsAnswered, IsCutShort, IsUnlessFailure, Explains}
 use Rattle.net_column.proofs.Found.{texts_have_one_net}
 
@@ -34,6 +34,12 @@ compiles_once (text ∷ []) (Makes completion bytes) (Makes another others) firs
 compiles_once [] one other first second = absurd first
 compiles_once (text ∷ more ∷ texts) one other first second = absurd first
 
+clocks_once : (cycles : ℕ) (texts : List (List ℕ)) (one other : Answer) → RunsTo cycles texts one → RunsTo cycles texts other → one ≡ other
+clocks_once cycles [] one other first second = absurd first
+clocks_once cycles (save ∷ []) one other first second = absurd first
+clocks_once cycles (save ∷ spec ∷ []) one other first second = first ∙ sym second
+clocks_once cycles (save ∷ spec ∷ more ∷ texts) one other first second = absurd first
+
 orders_once : (seed limit : ℕ) (texts : List (List ℕ)) (one other : Answer) → OrdersTo seed limit texts one → OrdersTo seed limit texts other → one ≡ other
 orders_once seed limit [] one other first second = absurd first
 orders_once seed limit (save ∷ []) one other first second = absurd first
@@ -49,6 +55,7 @@ replays_once (save ∷ spec ∷ events ∷ more ∷ texts) one other first secon
 
 pub answers_are_one : AnswersAreOne
 answers_are_one (Compile net save) texts one other first second = compiles_once texts one other first second
+answers_are_one (Run save spec seed cycles) texts one other first second = clocks_once cycles texts one other first second
 answers_are_one (Order save spec seed order_seed limit) texts one other first second = orders_once order_seed limit texts one other first second
 answers_are_one (Replay save spec seed events) texts one other first second = replays_once texts one other first second
 

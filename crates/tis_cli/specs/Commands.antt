@@ -6,7 +6,7 @@ use Rattle.tis_cli.specs.declared.command.Command.TheVariants as held_as
 use Rattle.tis_cli.specs.declared.status.Refusal.TheVariants.{NotThisForm}
 use Rattle.tis_cli.specs.Answers.{Answer, Refuses, Makes, AllDone, Destination, Kept, Put}
 use Rattle.tis_words.specs.Numerals.{number_of}
-use Rattle.tis_cli.specs.Runs.{order_answer, replay_answer}
+use Rattle.tis_cli.specs.Runs.{run_answer, order_answer, replay_answer}
 use Rattle.net_column.specs.Net.{Net}
 use Rattle.net_column.specs.Column.{NetOf}
 use Rattle.net_column.specs.Compiled.{compiled}
@@ -18,6 +18,8 @@ use Rattle.tis_save.specs.Reading.{save_of}
 pub data Command : Type 0 where
   -- compiles the network under one name, and keeps its save under another
   Compile : (net : List ℕ) → (save : List ℕ) → Command
+  -- runs a save over a specification cycle by cycle, up to so many
+  Run : (save : List ℕ) → (spec : List ℕ) → (seed : ℕ) → (cycles : ℕ) → Command
   -- runs a save over a specification, in an order that is drawn with a seed, up to so many events; the first seed is the specification's
   Order : (save : List ℕ) → (spec : List ℕ) → (seed : ℕ) → (order_seed : ℕ) → (limit : ℕ) → Command
   -- runs a save over a specification by the events of a text
@@ -27,9 +29,13 @@ pub data Command : Type 0 where
 abbrev pub seed_of : List ℕ → Option ℕ
 seed_of word = number_of 18446744073709551615 word
 
--- a word that says how many events may happen
+-- a word that says how many events may happen, or how many cycles may be done
 abbrev pub limit_of : List ℕ → Option ℕ
 limit_of word = number_of 10000000 word
+
+-- a run of these numbers, where both are there
+abbrev pub run_with : List ℕ → List ℕ → Option ℕ → Option ℕ → Option Command
+run_with save spec seed cycles = option_and_then (λ s. option_map (λ n. Run save spec s n) cycles) seed
 
 -- an order of these numbers, where all of them are there
 abbrev pub order_with : List ℕ → List ℕ → Option ℕ → Option ℕ → Option ℕ → Option Command
@@ -41,13 +47,14 @@ replay_with save spec seed events = option_map (λ s. Replay save spec s events)
 -- the command that these words are
 abbrev pub command_of : List (List ℕ) → Option Command
 command_of (word ∷ net ∷ save ∷ []) = if bytes_eq word (codes "compile") then Some (Compile net save) else None
-command_of (word ∷ save ∷ spec ∷ seed ∷ events ∷ []) = if bytes_eq word (codes "replay") then replay_with save spec (seed_of seed) events else None
+command_of (word ∷ save ∷ spec ∷ seed ∷ last ∷ []) = if bytes_eq word (codes "run") then run_with save spec (seed_of seed) (limit_of last) else (if bytes_eq word (codes "replay") then replay_with save spec (seed_of seed) last else None)
 command_of (word ∷ save ∷ spec ∷ seed ∷ order_seed ∷ limit ∷ []) = if bytes_eq word (codes "order") then order_with save spec (seed_of seed) (seed_of order_seed) (limit_of limit) else None
 command_of _ = None
 
 -- what contracts see of a command that the program holds
 abbrev pub command_view : held.Command → Command
 command_view (held_as.Compile net save) = Compile net.now save.now
+command_view (held_as.Run save spec seed cycles) = Run save.now spec.now seed cycles
 command_view (held_as.Order save spec seed order_seed limit) = Order save.now spec.now seed order_seed limit
 command_view (held_as.Replay save spec seed events) = Replay save.now spec.now seed events.now
 
@@ -71,7 +78,14 @@ pub record IsCompiled (texts : List (List ℕ)) (bytes : List ℕ) : Type 0 wher
   pub reads_back : save_of bytes net.tiles ≡ Ok (compiled net)
   pub carries : Carries (compiled net) net
 
--- ---- order and replay
+-- ---- run, order and replay
+
+-- two texts are fetched
+abbrev pub RunsTo : ℕ → List (List ℕ) → Answer → Type 0
+RunsTo cycles (save ∷ spec ∷ []) answer = answer ≡ run_answer save spec cycles
+RunsTo cycles [] answer = ⊥
+RunsTo cycles (text ∷ []) answer = ⊥
+RunsTo cycles (save ∷ spec ∷ other ∷ texts) answer = ⊥
 
 -- two texts are fetched
 abbrev pub OrdersTo : ℕ → ℕ → List (List ℕ) → Answer → Type 0
@@ -93,24 +107,28 @@ ReplaysTo (save ∷ spec ∷ events ∷ other ∷ texts) answer = ⊥
 -- the names under which it fetches texts, in order
 abbrev pub fetched : Command → List (List ℕ)
 fetched (Compile net save) = net ∷ []
+fetched (Run save spec seed cycles) = save ∷ spec ∷ []
 fetched (Order save spec seed order_seed limit) = save ∷ spec ∷ []
 fetched (Replay save spec seed events) = save ∷ spec ∷ events ∷ []
 
 -- where what it makes goes
 abbrev pub destination_of : Command → Destination
 destination_of (Compile net save) = Kept save
+destination_of (Run save spec seed cycles) = Put
 destination_of (Order save spec seed order_seed limit) = Put
 destination_of (Replay save spec seed events) = Put
 
 -- what it comes to over the texts that it fetched, where nothing fails: the first refusal that the texts and then the work meet, or how the work ends and what it makes
 abbrev pub ComesTo : Command → List (List ℕ) → Answer → Type 0
 ComesTo (Compile net save) texts answer = CompilesTo texts answer
+ComesTo (Run save spec seed cycles) texts answer = RunsTo cycles texts answer
 ComesTo (Order save spec seed order_seed limit) texts answer = OrdersTo order_seed limit texts answer
 ComesTo (Replay save spec seed events) texts answer = ReplaysTo texts answer
 
 -- what is promised of the bytes that it made, where all is done; of a report nothing more than what it comes to
 abbrev pub IsPromised : Command → List (List ℕ) → List ℕ → Type 0
 IsPromised (Compile net save) texts bytes = IsCompiled texts bytes
+IsPromised (Run save spec seed cycles) texts bytes = Unit {0}
 IsPromised (Order save spec seed order_seed limit) texts bytes = Unit {0}
 IsPromised (Replay save spec seed events) texts bytes = Unit {0}
 

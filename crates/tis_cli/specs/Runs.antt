@@ -1,5 +1,5 @@
--- What `order` and `replay` come to over the texts that they fetch: the first refusal, or the report of what the grid did.
-use Rattle.std.specs.Prelude.{ℕ, ◌+◌, List, [], ◌∷◌, length, Option, Some, None, unwrap_or, Result, Ok, Err}
+-- What `run`, `order` and `replay` come to over the texts that they fetch: the first refusal, or the report of what the grid did.
+use Rattle.std.specs.Prelude.{ℕ, zero, suc, ◌+◌, List, [], ◌∷◌, length, Option, Some, None, unwrap_or, Result, Ok, Err}
 use Rattle.tis_asm.specs.declared.error.AsmError.{AsmError}
 use Rattle.tis_asm.specs.declared.error.AsmError.TheVariants as code
 use Rattle.tis_asm.specs.Assembling as asm
@@ -15,6 +15,7 @@ use Rattle.tis_grid.specs.Events.{step}
 use Rattle.tis_grid.specs.Orders.{after}
 use Rattle.tis_grid.specs.Choices.{enabled_events}
 use Rattle.tis_grid.specs.Drawn.{drawn}
+use Rattle.tis_clock.specs.Cycle.{cycle_events, after_cycle}
 use Rattle.tis_grid_text.specs.declared.error.GridTextError.{GridTextError}
 use Rattle.tis_grid_text.specs.declared.error.GridTextError.TheVariants as held_grid
 use Rattle.tis_grid_text.specs.GridText as text
@@ -68,12 +69,28 @@ over_events (Ok events) next = next events
 abbrev pub over_grid : List ℕ → List ℕ → (Grid → Answer) → Answer
 over_grid saved spec next = over_puzzle (text.grid_of spec) (λ puzzle. over_programs (save.save_of saved puzzle.tiles) (λ programs. next (grid_of puzzle programs)))
 
--- ---- an order that is drawn
+-- ---- the clock
 
--- the end of so many events in this state: at rest, where none of these can happen, or at the limit
+-- the end of so many events or cycles in this state: at rest, where none of these can happen, or at the limit
 abbrev pub ended_by : ℕ → Puzzle → State → List Event → Answer
 ended_by done puzzle state [] = Makes AllDone (ended_text (Rest done) puzzle state)
 ended_by done puzzle state (event ∷ events) = Makes (Limited done) (ended_text (Limit done) puzzle state)
+
+-- at rest, where a cycle has no event, and else what follows
+abbrev pub or_at_rest : ℕ → Puzzle → State → List Event → Answer → Answer
+or_at_rest done puzzle state [] next = Makes AllDone (ended_text (Rest done) puzzle state)
+or_at_rest done puzzle state (event ∷ events) next = next
+
+-- a grid from a state on, after so many cycles, up to so many more
+abbrev pub clocked_from : Grid → ℕ → ℕ → State → Answer
+clocked_from grid done zero state = ended_by done grid.puzzle state (cycle_events grid state)
+clocked_from grid done (suc more) state = or_at_rest done grid.puzzle state (cycle_events grid state) (clocked_from grid (done + 1) more (after_cycle grid state))
+
+-- a grid from its start, cycle by cycle, up to so many
+abbrev pub clocked : ℕ → Grid → Answer
+clocked cycles grid = clocked_from grid 0 cycles (start grid)
+
+-- ---- an order that is drawn
 
 -- the state after an order, which is legal
 abbrev pub state_after : Grid → List Event → State
@@ -101,6 +118,9 @@ abbrev pub replayed : Result (List Event) ℕ → Grid → Answer
 replayed order grid = over_events order (λ events. replayed_from grid 0 events (start grid))
 
 -- ---- the commands
+
+unfoldable pub run_answer : List ℕ → List ℕ → ℕ → Answer
+run_answer saved spec cycles = over_grid saved spec (clocked cycles)
 
 unfoldable pub order_answer : List ℕ → List ℕ → ℕ → ℕ → Answer
 order_answer saved spec seed limit = over_grid saved spec (ordered seed limit)

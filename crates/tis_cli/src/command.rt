@@ -1,6 +1,6 @@
 //! The words of the command line.
 ghost use Rattle.std.specs.Prelude.{◌≡◌, option_map, string_bytes};
-ghost use Rattle.tis_cli.specs.Commands.{command_of, command_view, seed_of as seed_in, limit_of as limit_in, order_with, replay_with};
+ghost use Rattle.tis_cli.specs.Commands.{command_of, command_view, seed_of as seed_in, limit_of as limit_in, run_with, order_with, replay_with};
 ghost use Rattle.tis_cli.specs.Outcomes.{words_of};
 
 use tis_words::number_of;
@@ -12,6 +12,13 @@ pub enum Command<'a> {
     Compile {
         net: &'a str,
         save: &'a str,
+    },
+    /// Runs a save over a specification cycle by cycle.
+    Run {
+        save: &'a str,
+        spec: &'a str,
+        seed: u64,
+        cycles: u64,
     },
     /// Runs a save over a specification in a drawn order.
     Order {
@@ -37,11 +44,28 @@ fn seed_of(word: &String) -> Option<u64>
     number_of(word.as_bytes(), u64::MAX)
 }
 
-// The number of a word that says how many events may happen.
+// The number of a word that says how many events may happen, or how many cycles may be done.
 fn limit_of(word: &String) -> Option<u64>
     ensures { result ≡ limit_in (string_bytes word.now) }
 {
     number_of(word.as_bytes(), 10_000_000)
+}
+
+// The command `run` with these words.
+fn run<'a>(
+    save: &'a String,
+    spec: &'a String,
+    seed: &String,
+    cycles: &String,
+) -> Option<Command<'a>>
+    ensures { run_with (string_bytes save.now) (string_bytes spec.now) (seed_in (string_bytes seed.now)) (limit_in (string_bytes cycles.now)) ≡ option_map command_view result }
+{
+    Some(Command::Run {
+        save: save.as_str(),
+        spec: spec.as_str(),
+        seed: seed_of(seed)?,
+        cycles: limit_of(cycles)?,
+    })
 }
 
 // The command `order` with these words.
@@ -89,6 +113,9 @@ pub fn read_words<'a>(words: &'a [String]) -> Option<Command<'a>>
             net: net.as_str(),
             save: save.as_str(),
         }),
+        [word, save, spec, seed, cycles] if word.as_str() == "run" => {
+            run(save, spec, seed, cycles)
+        }
         [word, save, spec, seed, events] if word.as_str() == "replay" => {
             replay(save, spec, seed, events)
         }

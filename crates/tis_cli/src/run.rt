@@ -2,11 +2,11 @@
 ghost use Rattle.std.specs.Prelude.{◌≡◌, ◌≢◌, ◌↔◌, ◌⊎◌, ℕ, List, Option, Some, None, OnOk, OnErr, IfErr, IsErrOf};
 ghost use Rattle.tis_base.specs.Outside.{Texts, Rose};
 ghost use Rattle.tis_cli.specs.Answers.{Answer, Put, answer_status};
-ghost use Rattle.tis_cli.specs.Commands.{Command as SomeCommand, Compile, Order, Replay, command_of, command_view, fetched, destination_of, ComesTo};
+ghost use Rattle.tis_cli.specs.Commands.{Command as SomeCommand, Compile, Run as ByClock, Order, Replay, command_of, command_view, fetched, destination_of, ComesTo};
 ghost use Rattle.tis_cli.specs.Outcomes.{words_of, IsCalled, PutsReport, PutsBytes, texts_under, IsOfAnswer, IsOfWork, IsAnswered, IsCutShort, IsUnlessFailure, status_after, Explains, Runs, IsPut, AreEnds, Finishes};
 
 use crate::command::{Command, read_words};
-use crate::runs::{Run, order, replay};
+use crate::runs::{Run, clock, order, replay};
 use crate::status::Status;
 use net_column::{emit, read_net};
 use std::alloc::Global;
@@ -38,6 +38,26 @@ fn status_of(outcome: Result<(), Status>) -> Status
         Ok(()) => Status::Done,
         Err(status) => status,
     }
+}
+
+// What a run by the clock over the texts under these names comes to.
+fn work_of_run<S: Store>(
+    alloc: Global,
+    save: &str,
+    spec: &str,
+    cycles: u64,
+    store: &mut S,
+) -> Result<Run, Status>
+    ensures runs { (seed : ℕ) → Runs (ByClock save.now spec.now seed cycles) (S.texts store.old) result }
+    ensures texts_stay { S.texts store.new ≡ S.texts store.old }
+    ensures missing_counted { IsErrOf result Status.Missing → Rose (S.misses store.old) (S.misses store.new) }
+    ensures fault_counted { IsErrOf result Status.StoreFault → Rose (S.faults store.old) (S.faults store.new) }
+    ensures misses_stay { result ≢ Err Status.Missing → S.misses store.new ≡ S.misses store.old }
+    ensures faults_stay { result ≢ Err Status.StoreFault → S.faults store.new ≡ S.faults store.old }
+{
+    let saved = store.fetch(alloc, save)?;
+    let spec = store.fetch(alloc, spec)?;
+    clock(alloc, &saved, &spec, cycles)
 }
 
 // What a drawn order over the texts under these names comes to.
@@ -128,6 +148,12 @@ fn perform<S: Store, K: Sink>(alloc: Global, command: Command, store: &mut S, ou
 {
     match command {
         Command::Compile { net, save } => status_of(compile(alloc, net, save, store)),
+        Command::Run {
+            save,
+            spec,
+            cycles,
+            ..
+        } => finish(work_of_run(alloc, save, spec, cycles, store), out),
         Command::Order {
             save,
             spec,
@@ -150,8 +176,9 @@ fn perform<S: Store, K: Sink>(alloc: Global, command: Command, store: &mut S, ou
 /// Does what the words say, and says how it ended.
 ///
 /// `compile NET SAVE` fetches the text under the name NET, and keeps the canonical save of the
-/// network that it is under the name SAVE. `order SAVE SPEC SEED ORDERSEED LIMIT` runs a save over a
-/// specification in an order that is drawn with ORDERSEED, and puts a report; `replay SAVE SPEC SEED EVENTS`
+/// network that it is under the name SAVE. `run SAVE SPEC SEED CYCLES` runs a save over a specification cycle
+/// by cycle, and puts a report; `order SAVE SPEC SEED ORDERSEED LIMIT` runs it in an order that is drawn with
+/// ORDERSEED; `replay SAVE SPEC SEED EVENTS`
 /// runs it by the events of a text. Other words are no command. The words are looked at
 /// first, then the names, then the texts in the order in which a command reads them, then its work;
 /// what it makes is kept, or put as a report, at the end.

@@ -119,6 +119,67 @@ fn a_grid_runs_in_drawn_orders_and_in_given_ones(rt: HostRuntime) -> Result<(), 
 }
 
 #[test]
+fn a_grid_runs_by_the_clock(rt: HostRuntime) -> Result<(), Fail> {
+    let empty = b"grid 1\ntiles CCCC CCCC CCCC\ninput 1\noutput 1\n".as_slice();
+    let held = b"@1\nMOV 5000, DOWN\nJRO 0\n@5\nMOV UP, DOWN\n@9\nMOV UP, DOWN\n".as_slice();
+    let last =
+        b"@1\nMOV LAST, DOWN\nMOV ANY, ACC\nMOV LAST, DOWN\n@5\nMOV UP, DOWN\n@9\nMOV UP, DOWN\n".as_slice();
+    for (save, grid, cycles, status, report) in [
+        (S, G, "100", Status::Done, b"rest 6\nout 1 5 7\n".as_slice()),
+        (S, G, "6", Status::Done, b"rest 6\nout 1 5 7\n".as_slice()),
+        (
+            S,
+            G,
+            "5",
+            Status::Limit { done: 5 },
+            b"limit 5\nout 1 5\n".as_slice(),
+        ),
+        (
+            S,
+            G,
+            "0",
+            Status::Limit { done: 0 },
+            b"limit 0\nout 1\n".as_slice(),
+        ),
+        (S, empty, "100", Status::Done, b"rest 0\nout 1\n".as_slice()),
+        (S, empty, "0", Status::Done, b"rest 0\nout 1\n".as_slice()),
+        (
+            ANY_SAVE,
+            ANY_GRID,
+            "100",
+            Status::Done,
+            b"rest 7\nout 1 1 2\n".as_slice(),
+        ),
+        (
+            held,
+            G,
+            "10",
+            Status::Limit { done: 10 },
+            b"limit 10\nout 1 999\n".as_slice(),
+        ),
+        (
+            last,
+            G,
+            "100",
+            Status::Done,
+            b"rest 7\nout 1 0 7\n".as_slice(),
+        ),
+    ] {
+        let mut out = MemSink::honest(rt.alloc());
+        let got = answer(
+            rt.alloc(),
+            &["run", "s", "g", "0", cycles],
+            (save, grid, b"".as_slice()),
+            9,
+            &mut out,
+        )?;
+        assert_eq!(rt; got, status);
+        assert_eq!(rt; out.written(), report);
+    }
+    Ok(())
+}
+
+#[test]
 fn a_text_that_is_refused_is_told_with_its_line(rt: HostRuntime) -> Result<(), Fail> {
     let twice = b"grid 1\ntiles CCCC CCCC CCCC\ninput 1 5 7\noutput 1 5 7\ninput 1 9\n".as_slice();
     let unknown = Refusal::Save(SaveError::Asm {
@@ -260,6 +321,37 @@ fn a_failing_outside_is_told_of(rt: HostRuntime) -> Result<(), Fail> {
             Status::Words,
         ),
         (["replay", "s", "g", "0"].as_slice(), 0, 9, Status::Words),
+        (
+            ["run", "s", "g", "0", "100"].as_slice(),
+            1,
+            9,
+            Status::StoreFault,
+        ),
+        (
+            ["run", "s", "g", "0", "100"].as_slice(),
+            2,
+            0,
+            Status::SinkFault,
+        ),
+        (
+            ["run", "s", "g", "0", "5"].as_slice(),
+            2,
+            0,
+            Status::SinkFault,
+        ),
+        (
+            ["run", "s", "h", "0", "5"].as_slice(),
+            9,
+            9,
+            Status::Missing,
+        ),
+        (
+            ["run", "s", "g", "0", "10000001"].as_slice(),
+            0,
+            9,
+            Status::Words,
+        ),
+        (["run", "s", "g", "0"].as_slice(), 0, 9, Status::Words),
     ] {
         let mut out = MemSink::failing(rt.alloc(), failing(rt.alloc(), sink_call)?);
         let got = answer(rt.alloc(), words, (S, G, events), call, &mut out)?;

@@ -1,13 +1,14 @@
-//! A save over a specification, in an order that is drawn or handed in.
+//! A save over a specification, cycle by cycle, or in an order that is drawn or handed in.
 ghost use Rattle.std.specs.Prelude.{◌≡◌, ◌≤◌};
 ghost use Rattle.tis_grid.specs.State.{Grid as SomeGrid};
 ghost use Rattle.tis_grid_text.specs.EventsText.{events_of};
 ghost use Rattle.tis_cli.specs.Answers.{Answer};
-ghost use Rattle.tis_cli.specs.Runs.{over_grid, ordered, replayed, order_answer, replay_answer};
+ghost use Rattle.tis_cli.specs.Runs.{over_grid, clocked, ordered, replayed, run_answer, order_answer, replay_answer};
 ghost use Rattle.tis_cli.specs.Ends.{Ends, Opens, ended_status};
 
 use crate::status::{Refusal, Status};
 use std::alloc::Global;
+use tis_clock::run_making_room;
 use tis_grid::{Ended, Grid, OrderError};
 use tis_grid_text::{read_events, read_grid};
 use tis_report::{ended_report, not_enabled_report, replayed_report};
@@ -37,6 +38,27 @@ fn status_of(ended: Ended) -> Status
         Ended::Rest { .. } => Status::Done,
         Ended::Limit { done } => Status::Limit { done },
     }
+}
+
+// Runs a grid from its start cycle by cycle, up to so many.
+fn run_clocked(alloc: Global, grid: &Grid, cycles: u64) -> Result<Run, Status>
+    ensures { Ends result (clocked cycles grid.now) }
+{
+    let mut state = grid.start(alloc)?;
+    let ended = run_making_room(grid, &mut state, cycles)?;
+    let report = ended_report(alloc, ended, grid.puzzle(), &state)?;
+    Ok(Run {
+        status: status_of(ended),
+        report,
+    })
+}
+
+/// What a run by the clock comes to.
+pub(crate) fn clock(alloc: Global, save: &[u8], spec: &[u8], cycles: u64) -> Result<Run, Status>
+    ensures { Ends result (run_answer save.now spec.now cycles) }
+{
+    let grid = open_grid(alloc, save, spec)?;
+    run_clocked(alloc, &grid, cycles)
 }
 
 // Runs a grid from its start in the order that is drawn with this seed, up to so many events.

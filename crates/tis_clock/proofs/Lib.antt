@@ -2,3 +2,10 @@ pub mod Legal
 pub mod Resting
 pub mod Once
 mod Examples
+mod Kept
+mod Ways
+mod Below
+pub mod Halves
+pub mod Room
+pub mod Same
+pub mod Runs

@@ -27,7 +27,7 @@ use Rattle.tis_clock.proofs.Resting.{writing_of_offers}
 
 -- ---- what stands in a list
 
-find_in : {X : Type 0} (test : X → Bool) (xs : List X) (x : X) → find test xs ≡ Some x → IsIn x xs
+pub find_in : {X : Type 0} (test : X → Bool) (xs : List X) (x : X) → find test xs ≡ Some x → IsIn x xs
 find_in test [] x is = absurd cc
 find_in test (first ∷ xs) x is =
     elim (test first) as (λ b. cond b (Some first) (find test xs) ≡ Some x → IsIn x (first ∷ xs)) [
@@ -35,16 +35,16 @@ find_in test (first ∷ xs) x is =
       | false ↦ λ found. inr (find_in test xs x found)
     ] is
 
-of_append : {X : Type 0} (x : X) (xs ys : List X) → IsIn x (xs ++ ys) → IsIn x xs ⊎ IsIn x ys
+pub of_append : {X : Type 0} (x : X) (xs ys : List X) → IsIn x (xs ++ ys) → IsIn x xs ⊎ IsIn x ys
 of_append x [] ys is = inr is
 of_append x (first ∷ xs) ys (inl same) = inl (inl same)
 of_append x (first ∷ xs) ys (inr later) = elim (of_append x xs ys later) [ inl left ↦ inl (inr left) | inr right ↦ inr right ]
 
-of_flat_map : {X Y : Type 0} (f : X → List Y) (y : Y) (xs : List X) → IsIn y (flat_map f xs) → (x : X) × IsIn y (f x)
+pub of_flat_map : {X Y : Type 0} (f : X → List Y) (y : Y) (xs : List X) → IsIn y (flat_map f xs) → (x : X) × IsIn y (f x)
 of_flat_map f y [] is = absurd is
 of_flat_map f y (first ∷ xs) is = elim (of_append y (f first) (flat_map f xs) is) [ inl here ↦ (first, here) | inr later ↦ of_flat_map f y xs later ]
 
-of_map : {X Y : Type 0} (f : X → Y) (y : Y) (xs : List X) → IsIn y (map f xs) → (x : X) × IsIn x xs × (f x ≡ y)
+pub of_map : {X Y : Type 0} (f : X → Y) (y : Y) (xs : List X) → IsIn y (map f xs) → (x : X) × IsIn x xs × (f x ≡ y)
 of_map f y [] is = absurd is
 of_map f y (first ∷ xs) (inl same) = (first, inl refl, same)
 of_map f y (first ∷ xs) (inr later) = let found = of_map f y xs later in (found.0, inr found.1, found.2)

@@ -1,2 +1,4 @@
 pub mod Cycle
 pub mod Laws
+pub mod Turns
+pub mod Runs

@@ -12,7 +12,7 @@ pub fn rest_has_no_cycle()
     ensures { RestHasNoCycle }
 {}
 
-/// Each compute tile makes one step in a cycle at most, so that a value crosses one node in it at most.
+/// Each tile makes one step in a cycle at most, so that a value crosses one node in it at most.
 pub fn tiles_act_once()
     ensures { TilesActOnce }
 {}

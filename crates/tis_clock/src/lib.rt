@@ -8,18 +8,36 @@
 //!
 //! # What the layers above use
 //!
+//! [`cycle`] applies the events of one cycle, [`run`] does cycle after cycle up to the first after which the grid is at
+//! rest, and [`run_making_room`] does the same where nobody knows how much the outputs take.
+//!
 //! The laws, as contracts of functions without a body: the events of a cycle are a legal order
-//! ([`cycles_are_legal`]); there is none exactly at rest ([`rest_has_no_cycle`]); each compute tile makes one step
-//! in a cycle at most, so that a value crosses one node in it at most ([`tiles_act_once`]).
+//! ([`cycles_are_legal`]); there is none exactly at rest ([`rest_has_no_cycle`]); each tile does one thing in a cycle
+//! at most, so that a value crosses one node in it at most ([`tiles_act_once`]).
+//!
+//! # An example
+//!
+//! ```text
+//! let mut state = grid.start(alloc)?;
+//! state.reserve(100)?;
+//! let ended = run(&grid, &mut state, 100);     // Ended::Rest { done: 6 }, say
+//! ```
+//!
+//! # What it costs
+//!
+//! A cycle goes over the tiles twice, and asks of each what it can do. `cycle` and `run` take no memory; `run_making_room`
+//! takes some where an output has no room left.
 //!
 //! # What it doesn't do
 //!
-//! It runs no grid yet: what stands is the definition of the clock and what is known of it. The clock is this
-//! project's own, and says nothing of the cycle counts of the game.
+//! It knows nothing of the cycle counts of the game: the clock is this project's own.
 #![tactic(auto)]
 
+mod cycles;
 mod laws;
 mod trace;
+mod turns;
 
+pub use cycles::{cycle, run, run_making_room};
 pub use laws::{cycles_are_legal, rest_has_no_cycle, tiles_act_once};
 pub use trace::Trace;

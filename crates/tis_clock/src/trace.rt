@@ -52,6 +52,13 @@ impl Trace {
         self.events[index as usize]
     }
 
+    /// Leaves no event.
+    pub fn clear(&mut self)
+        ensures { self.new ≡ [] }
+    {
+        self.count = 0;
+    }
+
     /// One more event at the end.
     pub fn push(&mut self, event: Event)
         requires { length self.old < 48 }

@@ -1,0 +1,16 @@
+use Rattle.std.proofs.Common.{sym, subst}
+use Rattle.std.proofs.lemmas.Result.{err_from_is_err_and}
+use Rattle.tis_cli.specs.Answers.{Answer}
+use Rattle.tis_cli.specs.Runs.{clocked, run_answer}
+use Rattle.tis_cli.specs.Ends.{Ends}
+use Rattle.tis_cli.proofs.runs.clock.Goals as goal
+
+pub returns-in_err-grid : goal.returns-in_err-grid
+unfolding run_answer
+returns-in_err-grid c =
+    let p = err_from_is_err_and c.from_residual.result c.from_residual.ensures.1 in
+    rw (p.1, p.2) (c.in_err-grid.ensures (clocked c.args.cycles))
+
+pub returns : goal.returns
+unfolding run_answer
+returns c = subst (λ (a : Answer). Ends c.run_clocked.result a) (sym (c.in_ok-grid.ensures (clocked c.args.cycles))) c.run_clocked.ensures

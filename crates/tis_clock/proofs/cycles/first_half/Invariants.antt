@@ -1,0 +1,14 @@
+-- The tiles so far had their turn, and gave to no output.
+use Rattle.std.proofs.Common.{◌≡◌, [], length}
+use Rattle.tis_grid.specs.Orders.{Fits}
+use Rattle.tis_clock.specs.Cycle.{reads_or_steps}
+use Rattle.tis_clock.specs.Turns.{kept_at}
+use Rattle.tis_clock.proofs.Halves.{Done}
+use Rattle.tis_clock.proofs.cycles.first_half.Given as goal
+
+abbrev pub invariant-loop-number : goal.invariant-loop-number
+invariant-loop-number l = record {
+  fits : Fits l.grid l.state.state;
+  spares : l.state.spares ≡ l.initial.state.spares;
+  done : Done l.grid (reads_or_steps l.grid (kept_at l.writing)) l.initial.state.state [] (length l.grid.puzzle.tiles.kinds) l.number l.trace l.state.state;
+}

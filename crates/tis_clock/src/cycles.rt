@@ -1,0 +1,147 @@
+//! A grid, cycle by cycle.
+ghost use Rattle.std.specs.Prelude.{◌≡◌, ◌≤◌, ◌<◌, ◌++◌, [], length, IfSome, IfOk, OnOk};
+ghost use Rattle.tis_grid.specs.Orders.{Fits};
+ghost use Rattle.tis_grid.specs.Events.{IsEnabled};
+ghost use Rattle.tis_grid.specs.HeldState.{HasRoom, HasRoomEach};
+ghost use Rattle.tis_clock.specs.Cycle.{reads_or_steps, gives_out, state_after, in_turn, all_tiles, cycle_events, after_cycle};
+ghost use Rattle.tis_clock.specs.Runs.{EndsAs, LowersBy};
+ghost use Rattle.tis_clock.specs.Turns.{kept_at, acts, room_behind, HasRoomForOne};
+
+use crate::trace::Trace;
+use crate::turns::{TILES, give_out, read_or_step, writers};
+use tis_base::{NoMemory, Tile};
+use tis_grid::{Ended, Event, Grid, State};
+
+// Applies what a tile chose, where it chose anything, and writes it down.
+fn act(grid: &Grid, state: &mut State, trace: &mut Trace, chosen: Option<Event>)
+    requires fits { Fits grid.now state.old.state }
+    requires enabled { IfSome chosen (λ event. IsEnabled grid.now state.old.state event) }
+    requires room { IfSome chosen (λ event. HasRoom state.old.spares event) }
+    requires few { length trace.old < 48 }
+    ensures trace { trace.new ≡ trace.old ++ acts chosen }
+    ensures state { state.new.state ≡ state_after grid.now state.old.state (acts chosen) }
+    ensures spares { state.new.spares ≡ room_behind state.old.spares chosen }
+    ensures fits { Fits grid.now state.new.state }
+{
+    if let Some(event) = chosen {
+        grid.apply(state, event);
+        trace.push(event);
+    }
+}
+
+// How many tiles a grid has.
+fn tiles_of(grid: &Grid) -> u8
+    ensures tiles { result ≡ length grid.now.puzzle.tiles.kinds }
+    ensures few { result ≡ 12 }
+{
+    let shape = grid.puzzle().tiles.shape();
+    shape.columns * shape.rows
+}
+
+// What the tiles do that were ready, tile by tile.
+fn first_half(grid: &Grid, writing: &[bool; TILES], state: &mut State, trace: &mut Trace)
+    requires fits { Fits grid.now state.old.state }
+    requires empty { trace.old ≡ [] }
+    ensures trace { trace.new ≡ in_turn grid.now (reads_or_steps grid.now (kept_at writing.now)) state.old.state (all_tiles grid.now) }
+    ensures few { length trace.new ≤ 12 }
+    ensures state { state.new.state ≡ state_after grid.now state.old.state trace.new }
+    ensures spares { state.new.spares ≡ state.old.spares }
+    ensures fits { Fits grid.now state.new.state }
+{
+    for number in 0..tiles_of(grid) {
+        let chosen = read_or_step(grid, writing, state, Tile { number });
+        act(grid, state, trace, chosen);
+    }
+}
+
+// What those give that were writing and whose values weren't taken, tile by tile.
+fn second_half(grid: &Grid, writing: &[bool; TILES], state: &mut State, trace: &mut Trace)
+    requires fits { Fits grid.now state.old.state }
+    requires room { HasRoomForOne grid.now state.old.spares }
+    requires few { length trace.old ≤ 12 }
+    ensures trace { trace.new ≡ trace.old ++ in_turn grid.now (gives_out grid.now (kept_at writing.now)) state.old.state (all_tiles grid.now) }
+    ensures state { state.new.state ≡ state_after grid.now state.old.state (in_turn grid.now (gives_out grid.now (kept_at writing.now)) state.old.state (all_tiles grid.now)) }
+    ensures spares { LowersBy 1 state.old.spares state.new.spares }
+    ensures fits { Fits grid.now state.new.state }
+{
+    for number in 0..tiles_of(grid) {
+        let chosen = give_out(grid, writing, state, Tile { number });
+        act(grid, state, trace, chosen);
+    }
+}
+
+/// Applies the events of one clock cycle, writes them into the trace, and gives how many there were: none exactly
+/// where the grid is at rest. It asks room for one more value of each output, and takes no memory.
+pub fn cycle(grid: &Grid, state: &mut State, trace: &mut Trace) -> u32
+    requires fits { Fits grid.now state.old.state }
+    requires room { HasRoomEach state.old 1 }
+    ensures trace { trace.new ≡ cycle_events grid.now state.old.state }
+    ensures count { result ≡ length trace.new }
+    ensures state { state.new.state ≡ after_cycle grid.now state.old.state }
+    ensures spares { LowersBy 1 state.old.spares state.new.spares }
+    ensures fits { Fits grid.now state.new.state }
+{
+    let writing = writers(grid, state);
+    trace.clear();
+    first_half(grid, &writing, state, trace);
+    second_half(grid, &writing, state, trace);
+    trace.len()
+}
+
+/// Runs a grid cycle by cycle until it is at rest, for so many cycles at most, and gives how many were done. It asks
+/// room for so many more values of each output, and takes no memory.
+pub fn run(grid: &Grid, state: &mut State, cycles: u64) -> Ended
+    requires fits { Fits grid.now state.old.state }
+    requires room { HasRoomEach state.old cycles }
+    ensures ended { EndsAs grid.now state.old.state cycles result state.new.state }
+    ensures spares { LowersBy cycles state.old.spares state.new.spares }
+    ensures fits { Fits grid.now state.new.state }
+{
+    // The call tells the proof that this is a grid.
+    grid.puzzle();
+    let mut trace = Trace::new();
+    for done in 0..cycles {
+        if cycle(grid, state, &mut trace) == 0 {
+            return Ended::Rest { done };
+        }
+    }
+    if grid.at_rest(state) {
+        Ended::Rest { done: cycles }
+    } else {
+        Ended::Limit { done: cycles }
+    }
+}
+
+// Makes room for one more value of each output, where one has none left.
+fn make_room(state: &mut State) -> Result<(), NoMemory>
+    ensures state { state.new.state ≡ state.old.state }
+    ensures room { OnOk result (HasRoomEach state.new 1) }
+{
+    if 0 < state.spare() {
+        return Ok(());
+    }
+    state.reserve(1)
+}
+
+/// The same, and makes room for more values of the outputs where one has none left. Where memory runs out, some of
+/// the cycles were done.
+pub fn run_making_room(grid: &Grid, state: &mut State, cycles: u64) -> Result<Ended, NoMemory>
+    requires { Fits grid.now state.old.state }
+    ensures ended { IfOk result (λ ended. EndsAs grid.now state.old.state cycles ended state.new.state) }
+    ensures fits { Fits grid.now state.new.state }
+{
+    // The call tells the proof that this is a grid.
+    grid.puzzle();
+    let mut trace = Trace::new();
+    for done in 0..cycles {
+        make_room(state)?;
+        if cycle(grid, state, &mut trace) == 0 {
+            return Ok(Ended::Rest { done });
+        }
+    }
+    if grid.at_rest(state) {
+        Ok(Ended::Rest { done: cycles })
+    } else {
+        Ok(Ended::Limit { done: cycles })
+    }
+}
