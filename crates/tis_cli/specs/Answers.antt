@@ -5,7 +5,7 @@ use Rattle.tis_cli.specs.declared.status.Status.TheVariants.{Done, Refused, Limi
 use Rattle.tis_cli.specs.declared.status.Refusal.{Refusal}
 use Rattle.tis_cli.specs.declared.status.Refusal.TheVariants.{NotEnabled}
 
--- how work comes to its end, with bytes made: it is done whole, or it stopped after as many events as were allowed, or at an event of an order that can't happen in its turn, by its index from 0 on
+-- how work comes to its end, with bytes made: it is done whole, or it stopped after as many events or cycles as were allowed, or at an event of an order that can't happen in its turn, by its index from 0 on
 pub data Completion : Type 0 where
   AllDone : Completion
   Limited : (done : ℕ) → Completion

@@ -71,7 +71,7 @@ over_grid saved spec next = over_puzzle (text.grid_of spec) (λ puzzle. over_pro
 
 -- ---- the clock
 
--- the end of so many events or cycles in this state: at rest, where none of these can happen, or at the limit
+-- the end of so many events or cycles in this state: at rest where this list, of what can happen or of the next cycle, is empty, and else at the limit
 abbrev pub ended_by : ℕ → Puzzle → State → List Event → Answer
 ended_by done puzzle state [] = Makes AllDone (ended_text (Rest done) puzzle state)
 ended_by done puzzle state (event ∷ events) = Makes (Limited done) (ended_text (Limit done) puzzle state)

@@ -1,4 +1,4 @@
--- What the clock asks of a tile at its turn.
+-- What a call that does a cycle keeps: which tiles were writing, what a tile chose, and the room of the outputs.
 use Rattle.std.specs.Prelude.{◌≡◌, ℕ, ◌<◌, Bool, false, List, [], ◌∷◌, Option, Some, None, IsTrue, get_or}
 use Rattle.tis_grid.specs.declared.event.Event.{Event}
 use Rattle.tis_grid.specs.State.{Grid, State}

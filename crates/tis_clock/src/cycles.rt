@@ -1,10 +1,10 @@
 //! A grid, cycle by cycle.
-ghost use Rattle.std.specs.Prelude.{◌≡◌, ◌≤◌, ◌<◌, ◌++◌, [], length, IfSome, IfOk, OnOk};
+ghost use Rattle.std.specs.Prelude.{◌≡◌, ◌≤◌, ◌<◌, ◌++◌, [], length, IfSome, IfOk, IfErr, OnOk};
 ghost use Rattle.tis_grid.specs.Orders.{Fits};
 ghost use Rattle.tis_grid.specs.Events.{IsEnabled};
 ghost use Rattle.tis_grid.specs.HeldState.{HasRoom, HasRoomEach};
 ghost use Rattle.tis_clock.specs.Cycle.{reads_or_steps, gives_out, state_after, in_turn, all_tiles, cycle_events, after_cycle};
-ghost use Rattle.tis_clock.specs.Runs.{EndsAs, LowersBy};
+ghost use Rattle.tis_clock.specs.Runs.{EndsAs, LowersBy, IsAfterSome};
 ghost use Rattle.tis_clock.specs.Turns.{kept_at, acts, room_behind, HasRoomForOne};
 
 use crate::trace::Trace;
@@ -70,8 +70,9 @@ fn second_half(grid: &Grid, writing: &[bool; TILES], state: &mut State, trace: &
     }
 }
 
-/// Applies the events of one clock cycle, writes them into the trace, and gives how many there were: none exactly
-/// where the grid is at rest. It asks room for one more value of each output, and takes no memory.
+/// Applies the events of one clock cycle, writes them into the trace, and gives how many there were: by the law
+/// `rest_has_no_cycle` none exactly where the grid is at rest. It asks room for one more value of each output, and takes
+/// no memory.
 pub fn cycle(grid: &Grid, state: &mut State, trace: &mut Trace) -> u32
     requires fits { Fits grid.now state.old.state }
     requires room { HasRoomEach state.old 1 }
@@ -128,6 +129,7 @@ fn make_room(state: &mut State) -> Result<(), NoMemory>
 pub fn run_making_room(grid: &Grid, state: &mut State, cycles: u64) -> Result<Ended, NoMemory>
     requires { Fits grid.now state.old.state }
     ensures ended { IfOk result (λ ended. EndsAs grid.now state.old.state cycles ended state.new.state) }
+    ensures broken_off { IfErr result (λ _. IsAfterSome grid.now state.old.state cycles state.new.state) }
     ensures fits { Fits grid.now state.new.state }
 {
     // The call tells the proof that this is a grid.
