@@ -6,7 +6,7 @@ use Rattle.tis_cli.specs.declared.command.Command.TheVariants as held_as
 use Rattle.tis_cli.specs.declared.status.Refusal.TheVariants.{NotThisForm}
 use Rattle.tis_cli.specs.Answers.{Answer, Refuses, Makes, AllDone, Destination, Kept, Put}
 use Rattle.tis_words.specs.Numerals.{number_of}
-use Rattle.tis_cli.specs.Runs.{run_answer, order_answer, replay_answer}
+use Rattle.tis_cli.specs.Runs.{run_answer, order_answer, replay_answer, debug_answer}
 use Rattle.net_column.specs.Net.{Net}
 use Rattle.net_column.specs.Column.{NetOf}
 use Rattle.net_column.specs.Compiled.{compiled}
@@ -24,6 +24,8 @@ pub data Command : Type 0 where
   Order : (save : List ℕ) → (spec : List ℕ) → (seed : ℕ) → (order_seed : ℕ) → (limit : ℕ) → Command
   -- runs a save over a specification by the events of a text
   Replay : (save : List ℕ) → (spec : List ℕ) → (seed : ℕ) → (events : List ℕ) → Command
+  -- debugs a save over a specification by the commands of a script
+  Debug : (save : List ℕ) → (spec : List ℕ) → (seed : ℕ) → (script : List ℕ) → Command
 
 -- a word that is a seed: a number below 2^64
 abbrev pub seed_of : List ℕ → Option ℕ
@@ -44,10 +46,16 @@ order_with save spec seed order_seed limit = option_and_then (λ s. option_and_t
 abbrev pub replay_with : List ℕ → List ℕ → Option ℕ → List ℕ → Option Command
 replay_with save spec seed events = option_map (λ s. Replay save spec s events) seed
 
+abbrev pub debug_with : List ℕ → List ℕ → Option ℕ → List ℕ → Option Command
+debug_with save spec seed script = option_map (λ s. Debug save spec s script) seed
+
 -- the command that these words are
 abbrev pub command_of : List (List ℕ) → Option Command
 command_of (word ∷ net ∷ save ∷ []) = if bytes_eq word (codes "compile") then Some (Compile net save) else None
-command_of (word ∷ save ∷ spec ∷ seed ∷ last ∷ []) = if bytes_eq word (codes "run") then run_with save spec (seed_of seed) (limit_of last) else (if bytes_eq word (codes "replay") then replay_with save spec (seed_of seed) last else None)
+command_of (word ∷ save ∷ spec ∷ seed ∷ last ∷ []) =
+    if bytes_eq word (codes "run") then run_with save spec (seed_of seed) (limit_of last)
+    else (if bytes_eq word (codes "replay") then replay_with save spec (seed_of seed) last
+    else (if bytes_eq word (codes "debug") then debug_with save spec (seed_of seed) last else None))
 command_of (word ∷ save ∷ spec ∷ seed ∷ order_seed ∷ limit ∷ []) = if bytes_eq word (codes "order") then order_with save spec (seed_of seed) (seed_of order_seed) (limit_of limit) else None
 command_of _ = None
 
@@ -57,6 +65,7 @@ command_view (held_as.Compile net save) = Compile net.now save.now
 command_view (held_as.Run save spec seed cycles) = Run save.now spec.now seed cycles
 command_view (held_as.Order save spec seed order_seed limit) = Order save.now spec.now seed order_seed limit
 command_view (held_as.Replay save spec seed events) = Replay save.now spec.now seed events.now
+command_view (held_as.Debug save spec seed script) = Debug save.now spec.now seed script.now
 
 -- ---- compile
 
@@ -78,7 +87,7 @@ pub record IsCompiled (texts : List (List ℕ)) (bytes : List ℕ) : Type 0 wher
   pub reads_back : save_of bytes net.tiles ≡ Ok (compiled net)
   pub carries : Carries (compiled net) net
 
--- ---- run, order and replay
+-- ---- run, order, replay and debug
 
 -- two texts are fetched
 abbrev pub RunsTo : ℕ → List (List ℕ) → Answer → Type 0
@@ -102,6 +111,14 @@ ReplaysTo (text ∷ []) answer = ⊥
 ReplaysTo (save ∷ spec ∷ []) answer = ⊥
 ReplaysTo (save ∷ spec ∷ events ∷ other ∷ texts) answer = ⊥
 
+-- three texts are fetched
+abbrev pub DebugsTo : List (List ℕ) → Answer → Type 0
+DebugsTo (save ∷ spec ∷ script ∷ []) answer = answer ≡ debug_answer save spec script
+DebugsTo [] answer = ⊥
+DebugsTo (text ∷ []) answer = ⊥
+DebugsTo (save ∷ spec ∷ []) answer = ⊥
+DebugsTo (save ∷ spec ∷ script ∷ other ∷ texts) answer = ⊥
+
 -- ---- every command
 
 -- the names under which it fetches texts, in order
@@ -110,6 +127,7 @@ fetched (Compile net save) = net ∷ []
 fetched (Run save spec seed cycles) = save ∷ spec ∷ []
 fetched (Order save spec seed order_seed limit) = save ∷ spec ∷ []
 fetched (Replay save spec seed events) = save ∷ spec ∷ events ∷ []
+fetched (Debug save spec seed script) = save ∷ spec ∷ script ∷ []
 
 -- where what it makes goes
 abbrev pub destination_of : Command → Destination
@@ -117,6 +135,7 @@ destination_of (Compile net save) = Kept save
 destination_of (Run save spec seed cycles) = Put
 destination_of (Order save spec seed order_seed limit) = Put
 destination_of (Replay save spec seed events) = Put
+destination_of (Debug save spec seed script) = Put
 
 -- what it comes to over the texts that it fetched, where nothing fails: the first refusal that the texts and then the work meet, or how the work ends and what it makes
 abbrev pub ComesTo : Command → List (List ℕ) → Answer → Type 0
@@ -124,6 +143,7 @@ ComesTo (Compile net save) texts answer = CompilesTo texts answer
 ComesTo (Run save spec seed cycles) texts answer = RunsTo cycles texts answer
 ComesTo (Order save spec seed order_seed limit) texts answer = OrdersTo order_seed limit texts answer
 ComesTo (Replay save spec seed events) texts answer = ReplaysTo texts answer
+ComesTo (Debug save spec seed script) texts answer = DebugsTo texts answer
 
 -- what is promised of the bytes that it made, where all is done; of a report nothing more than what it comes to
 abbrev pub IsPromised : Command → List (List ℕ) → List ℕ → Type 0
@@ -131,6 +151,7 @@ IsPromised (Compile net save) texts bytes = IsCompiled texts bytes
 IsPromised (Run save spec seed cycles) texts bytes = Unit {0}
 IsPromised (Order save spec seed order_seed limit) texts bytes = Unit {0}
 IsPromised (Replay save spec seed events) texts bytes = Unit {0}
+IsPromised (Debug save spec seed script) texts bytes = Unit {0}
 
 -- ---- laws
 
