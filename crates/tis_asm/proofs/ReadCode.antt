@@ -1,8 +1,7 @@
 -- What is read line by line, with a table of labels, is what all lines spell.
-use Rattle.std.proofs.Common.{◌≡◌, ℕ, zero, suc, ◌+◌, Bool, true, false, cond, List, [], ◌∷◌, ◌++◌, map, length, refl, sym, ap, ◌∙◌, arith, append_assoc, append-nil, length-append}
+use Rattle.std.proofs.Common.{◌≡◌, ℕ, ◌+◌, Bool, true, false, cond, List, [], ◌∷◌, ◌++◌, map, length, refl, sym, ap, ◌∙◌, arith, append_assoc, append-nil, length-append}
 use Rattle.std.specs.Prelude.{Option, Some, None, option_map, Result, Ok, Err, is_some, slice_set, ◌||◌}
 use Rattle.std.specs.List.{list_any}
-use Rattle.std.specs.Map.{lookup}
 use Rattle.std.specs.Option.{option_or}
 use Rattle.std.specs.Str.{bytes_eq}
 use Rattle.std.proofs.Math.Seq.{set-append_seam}
@@ -10,7 +9,7 @@ use Rattle.tis_asm.specs.declared.instr.Jump.{Jump as JumpKind}
 use Rattle.tis_asm.specs.declared.instr.Instr.{Instr}
 use Rattle.tis_asm.specs.declared.instr.Instr.TheVariants.{Jump}
 use Rattle.tis_asm.specs.declared.program.MarkedInstr.{MarkedInstr}
-use Rattle.tis_asm.specs.Assembling.{AsmRefusal, RepeatedLabel, UnknownLabel, NamedInstr, Plain, JumpTo, CodeLine, line_read, repeats, with_label, with_rest, with_line, lines_read, count_of, instr_count, is_named, label_at, wrapped, label_number, resolved, with_instr, onto_program, program_of, program_where}
+use Rattle.tis_asm.specs.Assembling.{AsmRefusal, RepeatedLabel, UnknownLabel, NamedInstr, Plain, JumpTo, CodeLine, line_read, repeats, with_label, with_rest, with_line, lines_read, count_of, instr_count, is_named, label_at, wrapped, label_number, with_instr, onto_program, program_of, program_where}
 use Rattle.tis_asm.specs.LineView.{source_of}
 use Rattle.tis_asm.specs.ReadCode.{Labels, label_in, NamedJump, ReadCode, nothing_read, is_above, label_added, instr_added, line_added, code_read, jump_set, number_in, jumps_set, program_read, program_where_read}
 use Rattle.tis_asm.proofs.Steps.{refused_code, refused_jumps}

@@ -1,9 +1,8 @@
 -- Lines of code are read one after the other: the instructions, whose jumps go nowhere yet, the jumps, and the labels.
-use Rattle.std.specs.Prelude.{ℕ, ◌+◌, Bool, false, List, [], ◌∷◌, ◌++◌, map, length, is_some, Option, Some, None, option_map, Result, Ok, Err, if◌then◌else◌, slice_set}
+use Rattle.std.specs.Prelude.{ℕ, ◌+◌, Bool, false, List, [], ◌∷◌, ◌++◌, length, is_some, Option, Some, None, option_map, Result, Ok, Err, if◌then◌else◌, slice_set}
 use Rattle.std.specs.Map.{lookup}
 use Rattle.std.specs.Str.{bytes_eq}
 use Rattle.tis_asm.specs.declared.instr.Jump.{Jump as JumpKind}
-use Rattle.tis_asm.specs.declared.instr.Instr.{Instr}
 use Rattle.tis_asm.specs.declared.instr.Instr.TheVariants.{Jump}
 use Rattle.tis_asm.specs.declared.program.MarkedInstr.{MarkedInstr}
 use Rattle.tis_asm.specs.Assembling.{AsmRefusal, RepeatedLabel, UnknownLabel, NamedInstr, Plain, JumpTo, CodeLine, wrapped}

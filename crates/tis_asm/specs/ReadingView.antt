@@ -1,5 +1,5 @@
 -- What is seen of lines of code that are read.
-use Rattle.std.specs.Prelude.{ℕ, List, ◌∷◌, map}
+use Rattle.std.specs.Prelude.{ℕ, List, map}
 use Rattle.std.specs.Borrow.{Bor}
 use Rattle.tis_asm.specs.declared.reading.NamedJump.{NamedJump as HeldJump}
 use Rattle.tis_asm.specs.declared.reading.Reading.{Reading}

@@ -2,8 +2,7 @@ use Rattle.std.proofs.Common.{◌∷◌, [], ◌++◌, List, ℕ, ap, ◌∙◌}
 use Rattle.std.specs.Borrow.{Bor}
 use Rattle.std.specs.Str.{bytes_eq}
 use Rattle.indexmap.proofs.CallerLemmas.{insert_entry-new}
-use Rattle.tis_asm.specs.ReadCode.{ReadCode}
-use Rattle.tis_asm.specs.ReadingView.{jump_view, labels_view, reading_view}
+use Rattle.tis_asm.specs.ReadingView.{labels_view, reading_view}
 use Rattle.tis_asm.proofs.ReadLabels.{looked_up, added_last}
 use Rattle.tis_asm.proofs.reading.Reading.insert_label.Goals as goal
 

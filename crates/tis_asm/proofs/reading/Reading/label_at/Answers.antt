@@ -1,4 +1,4 @@
-use Rattle.std.proofs.Common.{sym, ◌∙◌}
+use Rattle.std.proofs.Common.{◌∙◌}
 use Rattle.tis_asm.proofs.ReadLabels.{looked_up}
 use Rattle.tis_asm.proofs.reading.Reading.label_at.Goals as goal
 
