@@ -44,7 +44,12 @@ fn block_error(block: u8, error: AsmError) -> SaveError
 
 // One more block at the end, with the program of the lines that were taken; none where no block has
 // begun.
-fn close(alloc: Global, blocks: &mut Vec<ReadBlock>, begun: Option<u8>, code: &Assembler) -> Result<(), SaveError>
+fn close(
+    alloc: Global,
+    blocks: &mut Vec<ReadBlock>,
+    begun: Option<u8>,
+    code: &Assembler,
+) -> Result<(), SaveError>
     ensures { Answers (λ _. blocks_view blocks.new.items) result (closed (blocks_view blocks.old.items) begun (assembled_with code.now [])) }
 {
     let Some(number) = begun else {
