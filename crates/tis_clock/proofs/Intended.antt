@@ -31,7 +31,7 @@ found_one : (test : Event → Bool) (event : Event) (is : Bool) → test event �
 found_one test event is passes = ap (λ (b : Bool). cond b (Some event) None) passes
 
 module _ (grid : Grid) (is_grid : IsGrid grid) (now : State) (was : ℕ → Bool) (tile : ℕ) (within : tile < length grid.puzzle.tiles.kinds) where
-  test : Event → Bool
+  abbrev test : Event → Bool
   test event = gives_old was event && is_enabled grid now event
 
   -- a meeting with a giver that is next, at this tile's turn
@@ -145,7 +145,7 @@ module _ (grid : Grid) (is_grid : IsGrid grid) (now : State) (was : ℕ → Bool
 
   -- ---- the turn of a tile that was ready
 
-  way : Dir → Option Event
+  abbrev way : Dir → Option Event
   way dir = first_way grid was now (ways_to_take grid tile dir)
 
   -- the directions, one after the other
@@ -201,10 +201,7 @@ module _ (grid : Grid) (is_grid : IsGrid grid) (now : State) (was : ℕ → Bool
 
   -- ---- the turn of a tile that was writing
 
-  enabled : Event → Bool
-  enabled event = is_enabled grid now event
-
-  gift : Dir → Option Event
+  abbrev gift : Dir → Option Event
   gift dir = find (is_enabled grid now) (ways_to_give grid tile dir)
 
   no_push : (dir : Dir) → is_giving grid now tile dir ≡ false → find (is_enabled grid now) (Push (record { number = tile }) dir ∷ []) ≡ None

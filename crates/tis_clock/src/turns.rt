@@ -206,7 +206,9 @@ pub(crate) fn read_or_step(
             let dirs = [Dir::Left, Dir::Right, Dir::Up, Dir::Down];
             take_any(grid, writing, state, tile, &dirs)
         }
-        Intent::Nothing | Intent::Gives(_) | Intent::GivesAny => None,
+        Intent::Nothing => None,
+        Intent::Gives(_) => None,
+        Intent::GivesAny => None,
     }
 }
 
@@ -285,6 +287,9 @@ pub(crate) fn give_out(
             let order = [Dir::Left, Dir::Right, Dir::Up, Dir::Down];
             give_any(grid, state, tile, &order)
         }
-        Intent::Nothing | Intent::Local | Intent::Takes(_) | Intent::TakesAny => None,
+        Intent::Nothing => None,
+        Intent::Local => None,
+        Intent::Takes(_) => None,
+        Intent::TakesAny => None,
     }
 }

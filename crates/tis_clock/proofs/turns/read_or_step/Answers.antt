@@ -12,3 +12,12 @@ returns-in-Takes c = c.take_from.ensures ∙ takes_one c.args.grid.now c.puzzle.
 
 pub returns-in-TakesAny : goal.returns-in-TakesAny
 returns-in-TakesAny c = c.take_any.ensures ∙ takes_any c.args.grid.now c.puzzle.ensures.grid c.args.state.now.state (kept_at c.args.writing.now) c.args.tile.number c.requires.there (sym c.was_writing.ensures ∙ c.if-was_writing.false) c.in-TakesAny.ensures.local
+
+pub returns-in-Nothing : goal.returns-in-Nothing
+returns-in-Nothing c = takes_none c.args.grid.now c.puzzle.ensures.grid c.args.state.now.state (kept_at c.args.writing.now) c.args.tile.number c.requires.there (sym c.was_writing.ensures ∙ c.if-was_writing.false) c.in-Nothing.ensures.local c.in-Nothing.ensures.takes
+
+pub returns-in-Gives : goal.returns-in-Gives
+returns-in-Gives c = takes_none c.args.grid.now c.puzzle.ensures.grid c.args.state.now.state (kept_at c.args.writing.now) c.args.tile.number c.requires.there (sym c.was_writing.ensures ∙ c.if-was_writing.false) c.in-Gives.ensures.local c.in-Gives.ensures.takes
+
+pub returns-in-GivesAny : goal.returns-in-GivesAny
+returns-in-GivesAny c = takes_none c.args.grid.now c.puzzle.ensures.grid c.args.state.now.state (kept_at c.args.writing.now) c.args.tile.number c.requires.there (sym c.was_writing.ensures ∙ c.if-was_writing.false) c.in-GivesAny.ensures.local c.in-GivesAny.ensures.takes
