@@ -21,3 +21,4 @@ pub mod OrderRuns
 pub mod Choosing
 pub mod Drawing
 pub mod Frames
+mod Intended
