@@ -1,2 +1,5 @@
 pub mod Lengths
+pub mod Runs
+pub mod Follows
+pub mod Statements
 mod Examples
