@@ -2,4 +2,6 @@ pub mod Lengths
 pub mod Runs
 pub mod Follows
 pub mod Statements
+pub mod Branches
+pub mod Loops
 mod Examples
