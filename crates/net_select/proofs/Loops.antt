@@ -83,3 +83,77 @@ module _ (program : List MarkedInstr) (ports : Ports) (names : Names) where
         (past_y program ports names kind place (place + 4 + f_lines) state.x state.y first second third is)
         (f_does (place + 3) both.0 (stepped state))
         (λ x y. goes_at program ports names 1 (N (place + 3 + f_lines) x y) (place + 5 + f_lines + g_lines) (place + (5 + (f_lines + g_lines))) x y (omega arith) (goes_to program ports names Always (place + 3 + f_lines) (place + 5 + f_lines + g_lines) x y both.1.0 refl))
+
+  -- ---- loops
+
+  -- turn after turn, each of which is followed
+  pub loops : (top place : ℕ) (holds : ProcessState → Bool) (body : ProcessState → Execution) →
+      ((state : ProcessState) → holds (stepped state) ≡ true → Follows program ports names (N top state.x state.y) top state (body (stepped state))) →
+      ((state : ProcessState) → holds (stepped state) ≡ false → Follows program ports names (N top state.x state.y) place state (ended Finished (stepped state))) →
+      (fuel : ℕ) (state : ProcessState) → Follows program ports names (N top state.x state.y) place state (loop_within fuel holds body state)
+  loops top place holds body turns leaves zero state = tt
+  loops top place holds body turns leaves (suc more) state =
+      begun program ports names (N top state.x state.y) place state (λ after. cond (holds after) (and_then (body after) (loop_within more holds body)) (ended Finished after))
+      (by (holds (stepped state)) refl (loops top place holds body turns leaves more))
+    where
+      by : (b : Bool) → holds (stepped state) ≡ b → ((after : ProcessState) → Follows program ports names (N top after.x after.y) place after (loop_within more holds body after)) →
+          Follows program ports names (N top state.x state.y) place state (cond b (and_then (body (stepped state)) (loop_within more holds body)) (ended Finished (stepped state)))
+      by true is again = then program ports names (N top state.x state.y) top place state (body (stepped state)) (loop_within more holds body) (turns state is) again
+      by false is again = leaves state is
+
+  -- the value of a variable
+  abbrev value_of : Var → ℤ → ℤ → ℤ
+  value_of X x y = x
+  value_of Y x y = y
+
+  -- how a node goes round a loop: into the body, out of the loop, and back to its top
+  record GoesRound (kind : JumpKind) (var : Var) (body : Placed) (lines top end inside in_steps out_steps : ℕ) (enters : Bool) : Type 0 where
+    into : (x y : ℤ) → jumps kind (value_of var x y) ≡ enters → Goes program ports names in_steps (N top x y) (N inside x y)
+    out : (x y : ℤ) → jumps kind (value_of var x y) ≡ not enters → Goes program ports names out_steps (N top x y) (N end x y)
+    stands : HoldsAt program ports inside (body inside)
+    back : (x y : ℤ) → Goes program ports names 1 (N (inside + lines) x y) (N top x y)
+
+  module _ (kind : JumpKind) (body : Placed) (lines : ℕ) (has : HasLines body lines) where
+    leaves_x : (top : ℕ) → HoldsAt program ports top (leaving_code (length program) X kind lines body top) → GoesRound kind X body lines top (top + 2 + lines) (top + 1) 1 1 false
+    leaves_x top (first, rest) =
+        let both = behind body lines (jump_to (length program) Always top ∷ []) (top + 1) has rest in
+        record {
+          into = λ x y is. goes_past program ports names kind top (top + 2 + lines) x y first is;
+          out = λ x y is. goes_to program ports names kind top (top + 2 + lines) x y first is;
+          stands = both.0;
+          back = λ x y. goes_to program ports names Always (top + 1 + lines) top x y both.1.0 refl;
+        }
+
+    leaves_y : (top : ℕ) → HoldsAt program ports top (leaving_code (length program) Y kind lines body top) → GoesRound kind Y body lines top (top + 4 + lines + 1) (top + 3) 3 3 false
+    leaves_y top (first, (second, (third, rest))) =
+        let both = behind body lines (jump_to (length program) Always top ∷ instr.Swp ∷ []) (top + 3) has (moved program ports (body (top + 3) ++ jump_to (length program) Always top ∷ instr.Swp ∷ []) (top + 1 + 1 + 1) (top + 3) (omega arith) rest) in
+        let next : top + 3 + lines + 1 ≡ top + 4 + lines = omega arith in
+        record {
+          into = λ x y is. past_y program ports names kind top (top + 4 + lines) x y first second third is;
+          out = λ x y is. over_y program ports names kind top (top + 4 + lines) x y first second (subst (λ (p : ℕ). instr_at program p ≡ Some instr.Swp) next both.1.1.0) is;
+          stands = both.0;
+          back = λ x y. goes_to program ports names Always (top + 3 + lines) top x y both.1.0 refl;
+        }
+
+    enters_x : (top : ℕ) → HoldsAt program ports top (entering_code (length program) X kind lines body top) → GoesRound kind X body lines top (top + 3 + lines) (top + 2) 1 2 true
+    enters_x top (first, (second, rest)) =
+        let both = behind body lines (jump_to (length program) Always top ∷ []) (top + 2) has (moved program ports (body (top + 2) ++ jump_to (length program) Always top ∷ []) (top + 1 + 1) (top + 2) (omega arith) rest) in
+        record {
+          into = λ x y is. goes_to program ports names kind top (top + 2) x y first is;
+          out = λ x y is. goes_then program ports names 1 1 (N top x y) (N (top + 1) x y) (N (top + 3 + lines) x y) (goes_past program ports names kind top (top + 2) x y first is) (goes_to program ports names Always (top + 1) (top + 3 + lines) x y second refl);
+          stands = both.0;
+          back = λ x y. goes_to program ports names Always (top + 2 + lines) top x y both.1.0 refl;
+        }
+
+    enters_y : (top : ℕ) → HoldsAt program ports top (entering_code (length program) Y kind lines body top) → GoesRound kind Y body lines top (top + 6 + lines) (top + 5) 3 4 true
+    enters_y top (first, (second, (third, (fourth, (fifth, rest))))) =
+        let both = behind body lines (jump_to (length program) Always top ∷ []) (top + 5) has (moved program ports (body (top + 5) ++ jump_to (length program) Always top ∷ []) (top + 1 + 1 + 1 + 1 + 1) (top + 5) (omega arith) rest) in
+        let at_three : top + 1 + 1 + 1 ≡ top + 3 = omega arith in
+        let at_four : top + 1 + 1 + 1 + 1 ≡ top + 4 = omega arith in
+        record {
+          into = λ x y is. goes_at program ports names 3 (N top x y) (top + 4 + 1) (top + 5) x y (omega arith) (over_y program ports names kind top (top + 4) x y first second (subst (λ (p : ℕ). instr_at program p ≡ Some instr.Swp) at_four fifth) is);
+          out = λ x y is. goes_then program ports names 3 1 (N top x y) (N (top + 3) x y) (N (top + 6 + lines) x y) (past_y program ports names kind top (top + 4) x y first second third is)
+            (goes_to program ports names Always (top + 3) (top + 6 + lines) x y (subst (λ (p : ℕ). instr_at program p ≡ Some (jump_to (length program) Always (top + 6 + lines))) at_three fourth) refl);
+          stands = both.0;
+          back = λ x y. goes_to program ports names Always (top + 5 + lines) top x y both.1.0 refl;
+        }
