@@ -19,7 +19,7 @@ use Rattle.net_select.proofs.Statements.{at_place, swapped}
 -- ---- tests
 
 -- a value is negative, or 0, or positive; the jumps and the tests see the same
-jumps_when : (test : Test) (value : ℤ) → jumps (jump_of test) value ≡ cond (jumps_where_held test) (passes test value) (not (passes test value))
+pub jumps_when : (test : Test) (value : ℤ) → jumps (jump_of test) value ≡ cond (jumps_where_held test) (passes test value) (not (passes test value))
 jumps_when Zero (pos n) = refl
 jumps_when Zero (negsuc n) = refl
 jumps_when NotZero (pos n) = twice (n == 0)

@@ -4,4 +4,5 @@ pub mod Follows
 pub mod Statements
 pub mod Branches
 pub mod Loops
+pub mod Trees
 mod Examples

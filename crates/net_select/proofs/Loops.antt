@@ -15,6 +15,11 @@ use Rattle.net_select.proofs.Follows.{Names, Follows, then, begun}
 use Rattle.net_select.proofs.Statements.{swapped}
 use Rattle.net_select.proofs.Branches.{Goes, goes_then, goes_to, goes_past, goes_at, goes_only, between, past_y, over_y}
 
+-- the value of a variable
+abbrev pub value_of : Var → ℤ → ℤ → ℤ
+value_of X x y = x
+value_of Y x y = y
+
 module _ (program : List MarkedInstr) (ports : Ports) (names : Names) where
   -- a node at a place
   abbrev N : ℕ → ℤ → ℤ → Node
@@ -33,7 +38,7 @@ module _ (program : List MarkedInstr) (ports : Ports) (names : Names) where
   none_holds (i ∷ code) place none = absurd (omega (arith, none))
 
   -- code, and what stands behind it
-  behind : (code : Placed) (lines : ℕ) (rest : Code) (place : ℕ) → HasLines code lines → HoldsAt program ports place (code place ++ rest) → HoldsAt program ports place (code place) × HoldsAt program ports (place + lines) rest
+  pub behind : (code : Placed) (lines : ℕ) (rest : Code) (place : ℕ) → HasLines code lines → HoldsAt program ports place (code place ++ rest) → HoldsAt program ports place (code place) × HoldsAt program ports (place + lines) rest
   behind code lines rest place has holds =
       let both = holds_both program ports (code place) rest place holds in
       let same : place + length (code place) ≡ place + lines = ap (λ (n : ℕ). place + n) (has place) in
@@ -42,7 +47,7 @@ module _ (program : List MarkedInstr) (ports : Ports) (names : Names) where
   -- ---- an `if`
 
   module _ (kind : JumpKind) (f g : Placed) (f_lines g_lines : ℕ) (does_f does_g : ProcessState → Execution) (f_has : HasLines f f_lines) (g_has : HasLines g g_lines) (f_does : Translates f f_lines does_f) (g_does : Translates g g_lines does_g) where
-    if_x : (none made : Bool) (place : ℕ) (state : ProcessState) → (g_lines == 0) ≡ none → jumps kind state.x ≡ made →
+    pub if_x : (none made : Bool) (place : ℕ) (state : ProcessState) → (g_lines == 0) ≡ none → jumps kind state.x ≡ made →
         HoldsAt program ports place (cond none (jump_to (length program) kind (place + 1 + f_lines) ∷ f (place + 1)) (jump_to (length program) kind (place + 2 + f_lines) ∷ (f (place + 1) ++ jump_to (length program) Always (place + 2 + f_lines + g_lines) ∷ g (place + 2 + f_lines)))) →
         Follows program ports names (N place state.x state.y) (place + (cond none 1 2 + (f_lines + g_lines))) state (cond made (does_g (stepped state)) (does_f (stepped state)))
     if_x true true place state none is (first, rest) =
@@ -68,7 +73,7 @@ module _ (program : List MarkedInstr) (ports : Ports) (names : Names) where
         (f_does (place + 1) both.0 (stepped state))
         (λ x y. goes_at program ports names 1 (N (place + 1 + f_lines) x y) (place + 2 + f_lines + g_lines) (place + (2 + (f_lines + g_lines))) x y (omega arith) (goes_to program ports names Always (place + 1 + f_lines) (place + 2 + f_lines + g_lines) x y both.1.0 refl))
 
-    if_y : (made : Bool) (place : ℕ) (state : ProcessState) → jumps kind state.y ≡ made → HoldsAt program ports place (if_code (length program) Y kind f_lines g_lines f g place) →
+    pub if_y : (made : Bool) (place : ℕ) (state : ProcessState) → jumps kind state.y ≡ made → HoldsAt program ports place (if_code (length program) Y kind f_lines g_lines f g place) →
         Follows program ports names (N place state.x state.y) (place + (5 + (f_lines + g_lines))) state (cond made (does_g (stepped state)) (does_f (stepped state)))
     if_y true place state is (first, (second, (third, rest))) =
         let both = behind f f_lines (jump_to (length program) Always (place + 5 + f_lines + g_lines) ∷ instr.Swp ∷ g (place + 5 + f_lines)) (place + 3) f_has (moved program ports (f (place + 3) ++ jump_to (length program) Always (place + 5 + f_lines + g_lines) ∷ instr.Swp ∷ g (place + 5 + f_lines)) (place + 1 + 1 + 1) (place + 3) (omega arith) rest) in
@@ -101,20 +106,15 @@ module _ (program : List MarkedInstr) (ports : Ports) (names : Names) where
       by true is again = then program ports names (N top state.x state.y) top place state (body (stepped state)) (loop_within more holds body) (turns state is) again
       by false is again = leaves state is
 
-  -- the value of a variable
-  abbrev value_of : Var → ℤ → ℤ → ℤ
-  value_of X x y = x
-  value_of Y x y = y
-
   -- how a node goes round a loop: into the body, out of the loop, and back to its top
-  record GoesRound (kind : JumpKind) (var : Var) (body : Placed) (lines top end inside in_steps out_steps : ℕ) (enters : Bool) : Type 0 where
-    into : (x y : ℤ) → jumps kind (value_of var x y) ≡ enters → Goes program ports names in_steps (N top x y) (N inside x y)
-    out : (x y : ℤ) → jumps kind (value_of var x y) ≡ not enters → Goes program ports names out_steps (N top x y) (N end x y)
-    stands : HoldsAt program ports inside (body inside)
-    back : (x y : ℤ) → Goes program ports names 1 (N (inside + lines) x y) (N top x y)
+  pub record GoesRound (kind : JumpKind) (var : Var) (body : Placed) (lines top end inside in_steps out_steps : ℕ) (enters : Bool) : Type 0 where
+    pub into : (x y : ℤ) → jumps kind (value_of var x y) ≡ enters → Goes program ports names in_steps (N top x y) (N inside x y)
+    pub out : (x y : ℤ) → jumps kind (value_of var x y) ≡ not enters → Goes program ports names out_steps (N top x y) (N end x y)
+    pub stands : HoldsAt program ports inside (body inside)
+    pub back : (x y : ℤ) → Goes program ports names 1 (N (inside + lines) x y) (N top x y)
 
   module _ (kind : JumpKind) (body : Placed) (lines : ℕ) (has : HasLines body lines) where
-    leaves_x : (top : ℕ) → HoldsAt program ports top (leaving_code (length program) X kind lines body top) → GoesRound kind X body lines top (top + 2 + lines) (top + 1) 1 1 false
+    pub leaves_x : (top : ℕ) → HoldsAt program ports top (leaving_code (length program) X kind lines body top) → GoesRound kind X body lines top (top + 2 + lines) (top + 1) 1 1 false
     leaves_x top (first, rest) =
         let both = behind body lines (jump_to (length program) Always top ∷ []) (top + 1) has rest in
         record {
@@ -124,7 +124,7 @@ module _ (program : List MarkedInstr) (ports : Ports) (names : Names) where
           back = λ x y. goes_to program ports names Always (top + 1 + lines) top x y both.1.0 refl;
         }
 
-    leaves_y : (top : ℕ) → HoldsAt program ports top (leaving_code (length program) Y kind lines body top) → GoesRound kind Y body lines top (top + 4 + lines + 1) (top + 3) 3 3 false
+    pub leaves_y : (top : ℕ) → HoldsAt program ports top (leaving_code (length program) Y kind lines body top) → GoesRound kind Y body lines top (top + 4 + lines + 1) (top + 3) 3 3 false
     leaves_y top (first, (second, (third, rest))) =
         let both = behind body lines (jump_to (length program) Always top ∷ instr.Swp ∷ []) (top + 3) has (moved program ports (body (top + 3) ++ jump_to (length program) Always top ∷ instr.Swp ∷ []) (top + 1 + 1 + 1) (top + 3) (omega arith) rest) in
         let next : top + 3 + lines + 1 ≡ top + 4 + lines = omega arith in
@@ -135,7 +135,7 @@ module _ (program : List MarkedInstr) (ports : Ports) (names : Names) where
           back = λ x y. goes_to program ports names Always (top + 3 + lines) top x y both.1.0 refl;
         }
 
-    enters_x : (top : ℕ) → HoldsAt program ports top (entering_code (length program) X kind lines body top) → GoesRound kind X body lines top (top + 3 + lines) (top + 2) 1 2 true
+    pub enters_x : (top : ℕ) → HoldsAt program ports top (entering_code (length program) X kind lines body top) → GoesRound kind X body lines top (top + 3 + lines) (top + 2) 1 2 true
     enters_x top (first, (second, rest)) =
         let both = behind body lines (jump_to (length program) Always top ∷ []) (top + 2) has (moved program ports (body (top + 2) ++ jump_to (length program) Always top ∷ []) (top + 1 + 1) (top + 2) (omega arith) rest) in
         record {
@@ -145,7 +145,7 @@ module _ (program : List MarkedInstr) (ports : Ports) (names : Names) where
           back = λ x y. goes_to program ports names Always (top + 2 + lines) top x y both.1.0 refl;
         }
 
-    enters_y : (top : ℕ) → HoldsAt program ports top (entering_code (length program) Y kind lines body top) → GoesRound kind Y body lines top (top + 6 + lines) (top + 5) 3 4 true
+    pub enters_y : (top : ℕ) → HoldsAt program ports top (entering_code (length program) Y kind lines body top) → GoesRound kind Y body lines top (top + 6 + lines) (top + 5) 3 4 true
     enters_y top (first, (second, (third, (fourth, (fifth, rest))))) =
         let both = behind body lines (jump_to (length program) Always top ∷ []) (top + 5) has (moved program ports (body (top + 5) ++ jump_to (length program) Always top ∷ []) (top + 1 + 1 + 1 + 1 + 1) (top + 5) (omega arith) rest) in
         let at_three : top + 1 + 1 + 1 ≡ top + 3 = omega arith in
