@@ -1,5 +1,5 @@
 -- The code of a process follows it: by recursion on its statements, and then round after round.
-use Rattle.std.proofs.Common.{◌≡◌, ℕ, zero, suc, ◌+◌, ◌*◌, ◌≤◌, ℤ, pos, negsuc, Bool, true, false, cond, List, [], ◌∷◌, ◌++◌, Some, length, map, refl, sym, ap, subst, ◌∙◌, arith, append-nil, append_assoc, length-append}
+use Rattle.std.proofs.Common.{◌≡◌, ℕ, zero, suc, ◌+◌, ◌*◌, ◌≤◌, ℤ, pos, negsuc, Bool, true, false, cond, List, [], ◌∷◌, ◌++◌, Some, length, map, refl, sym, ap, subst, ◌∙◌, arith, append-nil, append_assoc, length-append, true≢false, eq-eqb}
 use Rattle.std.specs.Prelude.{◌==◌, not, slice_get, option_map, ◌+ℤ◌, ◌-ℤ◌, neg_ℤ}
 use Rattle.tis_base.specs.Saturation.{sat}
 use Rattle.tis_asm.specs.declared.instr.Source.TheVariants as from
@@ -15,8 +15,8 @@ use Rattle.net_tree.specs.declared.tree.Test.{Test}
 use Rattle.net_tree.specs.Tree.{Statement, Get, GetAdd, GetSub, Put, PutNumber, Move, Set, Add, Sub, Neg, Double, Copy, Swap, If, While, Count, Block, Empty, Then}
 use Rattle.net_rules.specs.Uses.{read_of, written_of, as_list, reads_in, reads_inside, writes_in, writes_inside}
 use Rattle.net_rules.specs.Process.{ProcessState, Finished, Execution, ended, and_then, stepped, begins, value_in, becomes, passes, is_positive, loop, exec, exec_statement, round, rounds_within}
-use Rattle.net_select.specs.Selection.{Ports, Code, Placed, on, jump_of, jumps_where_held, if_code, if_frame, leaving_code, entering_code, with_one_less, count_frame, statement_lines, block_lines, statement_code, block_code}
-use Rattle.net_select.proofs.Lengths.{one_on, one_less_lines, block_has}
+use Rattle.net_select.specs.Selection.{Ports, Code, Placed, on, jump_of, jumps_where_held, if_code, if_frame, leaving_code, entering_code, with_one_less, count_frame, while_frame, statement_lines, block_lines, statement_code, block_code}
+use Rattle.net_select.proofs.Lengths.{one_less_lines, statement_has, block_has}
 use Rattle.net_select.proofs.Runs.{Alone, Run, node_at, pc_of, ready_at, HoldsAt, moved, holds_both, alone, takes}
 use Rattle.net_select.proofs.Follows.{Names, Ran, Follows, then, begun}
 use Rattle.net_select.proofs.Statements.{at_place, on_y, on_local, on_take, on_put, put_number, move, copy, swap}
@@ -153,3 +153,85 @@ module _ (program : List MarkedInstr) (ports : Ports) (names : Names) where
       (λ place less after. on_y program ports names (instr.Sub (from.Number (pos 1))) place after.x after.y (sat (after.y -ℤ pos 1)) (Alone ∷ []) less
         (λ found. alone program ports (instr.Sub (from.Number (pos 1))) (place + 1) after.y after.x (sat (after.y -ℤ pos 1)) after.x found refl refl))
       (λ after name. refl) (λ after name. refl) (λ after. refl) state)
+
+  -- ---- statements and blocks
+
+  mutual
+    statement_does : (statement : Statement ℕ) → EachIs names.Read (as_list (read_of statement)) → EachIs names.Read (reads_inside statement) → EachIs names.Written (as_list (written_of statement)) → EachIs names.Written (writes_inside statement) →
+        Translates program ports names (statement_code ports (length program) statement) (statement_lines statement) (exec_statement statement)
+    statement_does (Get read var) (is, _) inside written deep place holds state =
+        on_take program ports names var (instr.Mov (from.Port (ports read)) to.Acc) read (λ old value. value) place is refl holds (λ p a b value found. takes program ports (instr.Mov (from.Port (ports read)) to.Acc) read p a b value b value found refl refl) state
+    statement_does (GetAdd read var) (is, _) inside written deep place holds state =
+        on_take program ports names var (instr.Add (from.Port (ports read))) read (λ old value. sat (old +ℤ value)) place is refl holds (λ p a b value found. takes program ports (instr.Add (from.Port (ports read))) read p a b (sat (a +ℤ value)) b value found refl refl) state
+    statement_does (GetSub read var) (is, _) inside written deep place holds state =
+        on_take program ports names var (instr.Sub (from.Port (ports read))) read (λ old value. sat (old -ℤ value)) place is refl holds (λ p a b value found. takes program ports (instr.Sub (from.Port (ports read))) read p a b (sat (a -ℤ value)) b value found refl refl) state
+    statement_does (Put written var) read inside (is, _) deep place holds state = on_put program ports names var written place is holds state
+    statement_does (PutNumber written number) read inside (is, _) deep place holds state = put_number program ports names written place number is holds state
+    statement_does (Move read written) (is, _) inside (to, _) deep place holds state = move program ports names read written place is to holds state
+    statement_does (Set var number) read inside written deep place holds state =
+        on_local program ports names var (instr.Mov (from.Number number) to.Acc) (λ old. number) place holds (λ p a b found. alone program ports (instr.Mov (from.Number number) to.Acc) p a b number b found refl refl) state
+    statement_does (Add var number) read inside written deep place holds state =
+        on_local program ports names var (instr.Add (from.Number number)) (λ old. sat (old +ℤ number)) place holds (λ p a b found. alone program ports (instr.Add (from.Number number)) p a b (sat (a +ℤ number)) b found refl refl) state
+    statement_does (Sub var number) read inside written deep place holds state =
+        on_local program ports names var (instr.Sub (from.Number number)) (λ old. sat (old -ℤ number)) place holds (λ p a b found. alone program ports (instr.Sub (from.Number number)) p a b (sat (a -ℤ number)) b found refl refl) state
+    statement_does (Neg var) read inside written deep place holds state =
+        on_local program ports names var instr.Neg (λ old. sat (neg_ℤ old)) place holds (λ p a b found. alone program ports instr.Neg p a b (sat (neg_ℤ a)) b found refl refl) state
+    statement_does (Double var) read inside written deep place holds state =
+        on_local program ports names var (instr.Add from.Acc) (λ old. sat (old +ℤ old)) place holds (λ p a b found. alone program ports (instr.Add from.Acc) p a b (sat (a +ℤ a)) b found refl refl) state
+    statement_does (Copy v w) read inside written deep place holds state = copy program ports names v w place holds state
+    statement_does Swap read inside written deep place holds state = swap program ports names place holds state
+    statement_does (If var test first second) read inside written deep place holds state =
+        let reads = each_both names.Read (reads_in first) (reads_in second) inside in
+        let writes = each_both names.Written (writes_in first) (writes_in second) deep in
+        begun program ports names (N place state.x state.y) (place + statement_lines (If var test first second)) state (λ after. cond (passes test (value_in var after)) (exec first after) (exec second after))
+        (if_does (jumps_where_held test) (jump_of test) var (passes test (value_in var (stepped state))) first second place state (same_value var ∙ jump_tells test (value_in var (stepped state)) (passes test (value_in var (stepped state))) refl)
+          (block_does first reads.0 writes.0) (block_does second reads.1 writes.1) holds)
+      where
+        same_value : (v : Var) → jumps (jump_of test) (value_in v state) ≡ jumps (jump_of test) (value_in v (stepped state))
+        same_value X = refl
+        same_value Y = refl
+    statement_does (While var test body) read inside written deep place holds state =
+        follows_at _ (place + (loop_frame (jumps_where_held test) var + block_lines body)) _ state _ (frame_is var)
+        (while_at (jumps_where_held test) (jump_of test) var (block_code ports (length program) body) (block_lines body) place (λ after. passes test (value_in var after)) (exec body) (block_has ports (length program) body)
+          (λ s b is. ap (jumps (jump_of test)) (value_is var s) ∙ jump_tells test (value_in var s) b is) (block_does body inside deep) holds state)
+      where
+        frame_is : (v : Var) → place + (loop_frame (jumps_where_held test) v + block_lines body) ≡ place + (while_frame v test + block_lines body)
+        frame_is X = refl
+        frame_is Y = refl
+    statement_does (Count var body) read inside written deep place holds state =
+        count_at var (block_code ports (length program) body) (block_lines body) place (exec body) (block_has ports (length program) body) (block_does body inside deep) holds state
+
+    pub block_does : (block : Block ℕ) → EachIs names.Read (reads_in block) → EachIs names.Written (writes_in block) → Translates program ports names (block_code ports (length program) block) (block_lines block) (exec block)
+    block_does Empty reads writes place holds state =
+        record { acts = []; run = at_place program ports names (N place state.x state.y) [] place (place + 0) state.x state.y (omega arith) refl; unread = λ name. refl; sent = λ name. sym (append-nil (state.sent name)); local = omega arith; named = tt }
+    block_does (Then line statement rest) reads writes place holds state =
+        let read_first = each_both names.Read (as_list (read_of statement)) (reads_inside statement ++ reads_in rest) reads in
+        let read_rest = each_both names.Read (reads_inside statement) (reads_in rest) read_first.1 in
+        let written_first = each_both names.Written (as_list (written_of statement)) (writes_inside statement ++ writes_in rest) writes in
+        let written_rest = each_both names.Written (writes_inside statement) (writes_in rest) written_first.1 in
+        let both = behind program ports names (statement_code ports (length program) statement) (statement_lines statement) (block_code ports (length program) rest (place + statement_lines statement)) place (statement_has ports (length program) statement) holds in
+        follows_at _ (place + statement_lines statement + block_lines rest) _ state _ (omega arith)
+        (then program ports names (N place state.x state.y) (place + statement_lines statement) (place + statement_lines statement + block_lines rest) state (exec_statement statement state) (exec rest)
+          (statement_does statement read_first.0 read_rest.0 written_first.0 written_rest.0 place both.0 state) (λ after. block_does rest read_rest.1 written_rest.1 (place + statement_lines statement) both.1 after))
+
+  -- ---- rounds
+
+  -- behind the last instruction the first follows
+  wraps : (place : ℕ) → place ≡ length program → pc_of (length program) place ≡ pc_of (length program) 0
+  wraps place is = by (place == length program) (0 == length program) refl refl
+    where
+      by : (b c : Bool) → (place == length program) ≡ b → (0 == length program) ≡ c → cond b 0 place ≡ cond c 0 0
+      by true true last first = refl
+      by true false last first = refl
+      by false true last first = absurd (true≢false (sym (eq-eqb place (length program) is) ∙ last))
+      by false false last first = absurd (true≢false (sym (eq-eqb place (length program) is) ∙ last))
+
+  pub rounds_do : (body : Block ℕ) → EachIs names.Read (reads_in body) → EachIs names.Written (writes_in body) → HoldsAt program ports 0 (block_code ports (length program) body 0) → block_lines body ≡ length program →
+      (rounds : ℕ) (state : ProcessState) → Follows program ports names (N 0 state.x state.y) 0 state (rounds_within rounds body state)
+  rounds_do body reads writes holds all zero state = tt
+  rounds_do body reads writes holds all (suc more) state =
+      then program ports names (N 0 state.x state.y) 0 0 state (round body state) (rounds_within more body)
+      (begun program ports names (N 0 state.x state.y) 0 state (exec body)
+        (between program ports names 0 0 (N 0 state.x state.y) (N 0 state.x state.y) (0 + block_lines body) 0 state (exec body (stepped state)) (omega arith) refl (block_does body reads writes 0 holds (stepped state))
+          (λ x y. ap (λ (p : ℕ). ready_at p x y) (wraps (0 + block_lines body) (omega (arith, all))))))
+      (rounds_do body reads writes holds all more)
