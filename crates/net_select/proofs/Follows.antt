@@ -94,7 +94,7 @@ module _ (program : List MarkedInstr) (ports : Ports) (names : Names) where
   pub record RanToWait (node : Node) (state after : ProcessState) (name : ℕ) : Type 0 where
     pub end : Node
     pub ran : Ran node state after end
-    pub awaits : Awaits program ports end (ports name)
+    pub awaits : Awaits program end (ports name)
     pub empty : after.unread name ≡ []
     pub read : names.Read name
 

@@ -5,4 +5,5 @@ pub mod Statements
 pub mod Branches
 pub mod Loops
 pub mod Trees
+pub mod Agreement
 mod Examples

@@ -29,11 +29,18 @@ step_of ports Alone = Local
 step_of ports (Reads name value) = Took (ports name) value
 step_of ports (Sends name value) = Gave (ports name) value
 
--- the node can make this step, whatever the value is that it takes
+-- a node that waits for a value from this port, and can do nothing else
+pub record Awaits (program : List MarkedInstr) (node : Node) (dir : Dir) : Type 0 where
+  pub ready : node.mode ≡ Ready
+  pub instr : Instr
+  pub found : instr_at program node.pc ≡ Some instr
+  pub source : source_of instr ≡ Some (from.Port dir)
+
+-- the node can make this step and no other, whatever the value is that it takes
 abbrev pub CanMake : List MarkedInstr → Node → Step → Type 0
 CanMake program node Local = IsTrue (can_local program node)
-CanMake program node (Took dir value) = IsTrue (wants program node dir)
-CanMake program node (Gave dir value) = offers node dir ≡ Some value
+CanMake program node (Took dir value) = Awaits program node dir
+CanMake program node (Gave dir value) = node.mode ≡ Writing value (One dir)
 
 pub is_same_dir_self : (dir : Dir) → is_same_dir dir dir ≡ true
 is_same_dir_self Left = refl
@@ -153,25 +160,18 @@ module _ (program : List MarkedInstr) (ports : Ports) where
   pub takes : (i : Instr) (name place : ℕ) (x y x1 y1 value : ℤ) → instr_at program place ≡ Some i → source_of i ≡ Some (from.Port (ports name)) → does_with i program (raw place x y) value ≡ goes_on program (raw place x1 y1) → Run (node_at place x y) (Reads name value ∷ []) (node_at (place + 1) x1 y1)
   takes i name place x y x1 y1 value found source does = begun place i found x y (Reads name value ∷ []) (node_at (place + 1) x1 y1) (can, goes)
     where
-      can : wants program (raw place x y) (ports name) ≡ true
-      can = rw (found, source) (is_same_dir_self (ports name))
+      can : Awaits program (raw place x y) (ports name)
+      can = record { ready = refl; instr = i; found = found; source = source }
 
       goes : after_step program (raw place x y) (Took (ports name) value) ≡ node_at (place + 1) x1 y1
       goes = rw (found, source) (does ∙ ended place i found x1 y1)
 
-  -- a node that waits for a value from this port, and can do nothing else
-  pub record Awaits (node : Node) (dir : Dir) : Type 0 where
-    pub ready : node.mode ≡ Ready
-    pub instr : Instr
-    pub found : instr_at program node.pc ≡ Some instr
-    pub source : source_of instr ≡ Some (from.Port dir)
-
-  pub awaits_at : (i : Instr) (name place : ℕ) (x y : ℤ) → instr_at program place ≡ Some i → source_of i ≡ Some (from.Port (ports name)) → Awaits (node_at place x y) (ports name)
+  pub awaits_at : (i : Instr) (name place : ℕ) (x y : ℤ) → instr_at program place ≡ Some i → source_of i ≡ Some (from.Port (ports name)) → Awaits program (node_at place x y) (ports name)
   awaits_at i name place x y found source = record { ready = refl; instr = i; found = ap (instr_at program) (here_is place i found) ∙ found; source = source }
 
   -- a value that is at hand is sent: a step by itself, and then it is given
   pub sends : (source : Source) (name place : ℕ) (x y value : ℤ) → instr_at program place ≡ Some (instr.Mov source (to.Port (ports name))) → supply_of source (raw place x y) ≡ AtHand value → Run (node_at place x y) (Alone ∷ Sends name value ∷ []) (node_at (place + 1) x y)
-  sends source name place x y value found supply = begun place (instr.Mov source (to.Port (ports name))) found x y (Alone ∷ Sends name value ∷ []) (node_at (place + 1) x y) (can, subst (λ (n : Node). Run n (Sends name value ∷ []) (node_at (place + 1) x y)) (sym writing) (offered, ended place (instr.Mov source (to.Port (ports name))) found x y))
+  sends source name place x y value found supply = begun place (instr.Mov source (to.Port (ports name))) found x y (Alone ∷ Sends name value ∷ []) (node_at (place + 1) x y) (can, subst (λ (n : Node). Run n (Sends name value ∷ []) (node_at (place + 1) x y)) (sym writing) (refl, ended place (instr.Mov source (to.Port (ports name))) found x y))
     where
       can : can_local program (raw place x y) ≡ true
       can = rw (found, supply) refl
@@ -179,18 +179,13 @@ module _ (program : List MarkedInstr) (ports : Ports) where
       writing : after_step program (raw place x y) Local ≡ writes value (One (ports name)) (raw place x y)
       writing = rw (found, supply) refl
 
-      offered : offers (writes value (One (ports name)) (raw place x y)) (ports name) ≡ Some value
-      offered = ap (λ (b : Bool). cond b (Some value) None) (is_same_dir_self (ports name))
-
   -- a value is read and sent on
   pub moves : (name other place : ℕ) (x y value : ℤ) → instr_at program place ≡ Some (instr.Mov (from.Port (ports name)) (to.Port (ports other))) → Run (node_at place x y) (Reads name value ∷ Sends other value ∷ []) (node_at (place + 1) x y)
-  moves name other place x y value found = begun place (instr.Mov (from.Port (ports name)) (to.Port (ports other))) found x y (Reads name value ∷ Sends other value ∷ []) (node_at (place + 1) x y) (can, subst (λ (n : Node). Run n (Sends other value ∷ []) (node_at (place + 1) x y)) (sym writing) (offered, ended place (instr.Mov (from.Port (ports name)) (to.Port (ports other))) found x y))
+  moves name other place x y value found = begun place (instr.Mov (from.Port (ports name)) (to.Port (ports other))) found x y (Reads name value ∷ Sends other value ∷ []) (node_at (place + 1) x y) (can, subst (λ (n : Node). Run n (Sends other value ∷ []) (node_at (place + 1) x y)) (sym writing) (refl, ended place (instr.Mov (from.Port (ports name)) (to.Port (ports other))) found x y))
     where
-      can : wants program (raw place x y) (ports name) ≡ true
-      can = rw found (is_same_dir_self (ports name))
+      can : Awaits program (raw place x y) (ports name)
+      can = record { ready = refl; instr = instr.Mov (from.Port (ports name)) (to.Port (ports other)); found = found; source = refl }
 
       writing : after_step program (raw place x y) (Took (ports name) value) ≡ writes value (One (ports other)) (raw place x y)
       writing = rw found refl
 
-      offered : offers (writes value (One (ports other)) (raw place x y)) (ports other) ≡ Some value
-      offered = ap (λ (b : Bool). cond b (Some value) None) (is_same_dir_self (ports other))

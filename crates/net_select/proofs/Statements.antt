@@ -61,7 +61,7 @@ module _ (program : List MarkedInstr) (ports : Ports) (names : Names) where
 
   -- where a value is left it is taken, and where none is left the node waits
   pub reading : (node waiting : Node) (place name : ℕ) (state : ProcessState) (acts : List Act) (next : ℤ → ProcessState → Execution) → names.Read name →
-      Run program ports node acts waiting → AreNamed names acts → alone_count acts + 8 * state.steps ≤ 8 * (state.steps + 1) → ((other : ℕ) → read_under other acts ≡ []) → ((other : ℕ) → sent_under other acts ≡ []) → Awaits program ports waiting (ports name) →
+      Run program ports node acts waiting → AreNamed names acts → alone_count acts + 8 * state.steps ≤ 8 * (state.steps + 1) → ((other : ℕ) → read_under other acts ≡ []) → ((other : ℕ) → sent_under other acts ≡ []) → Awaits program waiting (ports name) →
       ((value : ℤ) (left : List ℤ) → state.unread name ≡ value ∷ left → Follows program ports names node place state (next value (record (stepped state) { unread = with_stream state.unread name left }))) →
       Follows program ports names node place state (begins state (λ after. read_from name after next))
   reading node waiting place name state acts next read run named local no_read no_sent awaits takes =
