@@ -6,4 +6,5 @@ pub mod Branches
 pub mod Loops
 pub mod Trees
 pub mod Agreement
+pub mod Behaving
 mod Examples
