@@ -22,3 +22,4 @@ pub mod Choosing
 pub mod Drawing
 pub mod Frames
 mod Intended
+pub mod Returning

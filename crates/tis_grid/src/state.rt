@@ -1,7 +1,8 @@
 //! A grid at one moment.
 ghost use Rattle.std.specs.Prelude.{◌≡◌, ◌≤◌, ◌<◌, ◌-◌, ◌++◌, ◌∷◌, [], ℕ, length, map, replicate, slice_get, slice_index_or, slice_set, option_map, unwrap_or, Some, None, OnOk};
 ghost use Rattle.tis_node.specs.NodeView.{node_view};
-ghost use Rattle.tis_grid.specs.State.{node_at, stack_at, input_left, left_at, output_taken, outs};
+ghost use Rattle.tis_grid.specs.Orders.{Fits};
+ghost use Rattle.tis_grid.specs.State.{Grid as SomeGrid, State as SomeState, node_at, stack_at, input_left, left_at, output_taken, outs};
 ghost use Rattle.tis_devices.specs.Stack.{ROOM, newest, without_newest};
 ghost use Rattle.tis_grid.specs.declared.event.Event.TheVariants as event;
 ghost use Rattle.tis_grid.specs.HeldState.{output_spare, spare_at, least_spare, spares_after, HasSpare, HasRoomEach, NeverFall};
@@ -311,6 +312,7 @@ impl State {
         requires { CanReturn self.old.state point.now }
         ensures state { self.new.state ≡ returned self.old.state point.now }
         ensures spares { NeverFall self.old.spares self.new.spares }
+        ensures fits { (grid : SomeGrid) (earlier : SomeState) → Fits grid self.old.state → Fits grid earlier → point.now ≡ point_of earlier → Fits grid self.new.state }
     {
         cut_all(&mut self.outs, &point.lengths);
         self.nodes = copy_nodes(&point.nodes);
