@@ -113,8 +113,8 @@ pub fn run(grid: &Grid, state: &mut State, cycles: u64) -> Ended
     }
 }
 
-// Makes room for one more value of each output, where one has none left.
-fn make_room(state: &mut State) -> Result<(), NoMemory>
+/// Makes room for one more value of each output, where one has none left, so that a cycle can follow.
+pub fn make_room(state: &mut State) -> Result<(), NoMemory>
     ensures state { state.new.state ≡ state.old.state }
     ensures room { OnOk result (HasRoomEach state.new 1) }
 {

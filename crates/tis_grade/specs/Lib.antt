@@ -1,1 +1,4 @@
 pub mod Verdict
+pub mod Following
+pub mod Counts
+pub mod Laws
