@@ -2,3 +2,4 @@ pub mod Verdict
 pub mod Following
 pub mod Counts
 pub mod Laws
+pub mod Reports

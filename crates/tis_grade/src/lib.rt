@@ -7,7 +7,8 @@
 //!
 //! # What the layer above uses
 //!
-//! [`grade`] gives that verdict, and [`counts`] says how large a solution is. The law [`verdicts_are_first`] says
+//! [`grade`] gives that verdict, [`counts`] says how large a solution is, and [`grade_all`] grades a solution for several
+//! seeds and tells what came of it, as `specs/Reports.antt` says. The law [`verdicts_are_first`] says
 //! of verdicts what the definition says cycle by cycle: that they are those of the first state that decides.
 //!
 //! # An example
@@ -29,15 +30,17 @@
 //!
 //! # What it doesn't do
 //!
-//! It reads no text, and says nothing of orders other than the clock's.
+//! It reads no text, puts its report nowhere, and says nothing of orders other than the clock's.
 #![tactic(auto)]
 
+mod cases;
 mod follow;
 mod grading;
 mod laws;
 mod size;
 mod verdict;
 
+pub use cases::{Case, Failed, Graded, grade_all};
 pub use grading::grade;
 pub use laws::verdicts_are_first;
 pub use size::counts;
