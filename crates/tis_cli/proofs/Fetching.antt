@@ -3,11 +3,11 @@ use Rattle.std.proofs.Common.{◌≡◌, ℕ, List, [], ◌∷◌, Option, Some,
 use Rattle.std.specs.Prelude.{IfSome}
 use Rattle.tis_base.specs.Outside.{Texts, text_at}
 use Rattle.tis_cli.specs.declared.status.Status.{Status}
-use Rattle.tis_cli.specs.declared.status.Status.TheVariants.{Done, Words, Refused, Missing, StoreFault, SinkFault, NoMemory, Limit}
+use Rattle.tis_cli.specs.declared.status.Status.TheVariants.{Done, NotPassed, Words, Refused, Missing, StoreFault, SinkFault, NoMemory, Limit}
 use Rattle.tis_cli.specs.declared.runs.Run.{Run}
 use Rattle.tis_cli.specs.Answers.{Answer, Refuses, Makes}
-use Rattle.tis_cli.specs.Commands.{Command, Run as ByClock, Order, Replay, Debug, fetched, ComesTo}
-use Rattle.tis_cli.specs.Runs.{run_answer, order_answer, replay_answer, debug_answer}
+use Rattle.tis_cli.specs.Commands.{Command, Run as ByClock, Order, Replay, Grade, fetched, ComesTo, Debug}
+use Rattle.tis_cli.specs.Runs.{run_answer, order_answer, replay_answer, grade_answer, debug_answer}
 use Rattle.tis_cli.specs.Ends.{Ends}
 use Rattle.tis_cli.specs.Outcomes.{texts_under, with_first, AreFetched, Runs}
 use Rattle.tis_cli.proofs.Explained.{told_is}
@@ -21,6 +21,7 @@ comes_to_run command told found answer (Err NoMemory) are comes ends = tt
 comes_to_run command told found answer (Err Missing) are comes ends = absurd ends
 comes_to_run command told found answer (Err StoreFault) are comes ends = absurd ends
 comes_to_run command told found answer (Err Done) are comes ends = ends
+comes_to_run command told found answer (Err (NotPassed seed verdict)) are comes ends = ends
 comes_to_run command told found answer (Err Words) are comes ends = ends
 comes_to_run command told found answer (Err SinkFault) are comes ends = ends
 comes_to_run command told found answer (Err (Limit done)) are comes ends = ends
@@ -45,6 +46,13 @@ order_runs told second save spec saved read saved_seen read_seen seed order_seed
     comes_to_run (Order save spec seed order_seed limit) told (saved ∷ read ∷ []) (order_answer saved_seen read_seen order_seed limit) result
     (λ texts is. one_more texts save saved (spec ∷ []) (read ∷ []) (told_under told told save saved refl first texts is) (one_more texts spec read [] [] (told_under told second spec read stay next texts is) refl))
     (λ other same. same ∙ ap (λ (b : List ℕ). order_answer b read_seen order_seed limit) saved_is ∙ ap (λ (b : List ℕ). order_answer saved b order_seed limit) read_is)
+    ends
+
+pub grade_runs : (told second : Option Texts) (save spec saved read : List ℕ) (saved_seen read_seen : List ℕ) (limit : ℕ) (seeds : List ℕ) (result : Result Run Status) → second ≡ told → IfSome told (λ texts. text_at texts save ≡ Some saved) → IfSome second (λ texts. text_at texts spec ≡ Some read) → saved_seen ≡ saved → read_seen ≡ read → Ends result (grade_answer saved_seen read_seen limit seeds) → Runs (Grade save spec limit seeds) told result
+grade_runs told second save spec saved read saved_seen read_seen limit seeds result stay first next saved_is read_is ends =
+    comes_to_run (Grade save spec limit seeds) told (saved ∷ read ∷ []) (grade_answer saved_seen read_seen limit seeds) result
+    (λ texts is. one_more texts save saved (spec ∷ []) (read ∷ []) (told_under told told save saved refl first texts is) (one_more texts spec read [] [] (told_under told second spec read stay next texts is) refl))
+    (λ other same. same ∙ ap (λ (b : List ℕ). grade_answer b read_seen limit seeds) saved_is ∙ ap (λ (b : List ℕ). grade_answer saved b limit seeds) read_is)
     ends
 
 -- three texts that were fetched

@@ -2,10 +2,10 @@
 use Rattle.std.proofs.Common.{◌≡◌, ℕ, List, ◌++◌, Option, Some, option_map, Result, Ok, Err, refl, sym, subst, ◌∙◌, inl, inr}
 use Rattle.tis_base.specs.Outside.{Texts, WrotePrefix}
 use Rattle.tis_cli.specs.declared.status.Status.{Status}
-use Rattle.tis_cli.specs.declared.status.Status.TheVariants.{Done, Words, Refused, Missing, StoreFault, SinkFault, NoMemory, Limit}
+use Rattle.tis_cli.specs.declared.status.Status.TheVariants.{Done, NotPassed, Words, Refused, Missing, StoreFault, SinkFault, NoMemory, Limit}
 use Rattle.tis_cli.specs.declared.status.Refusal.{Refusal}
 use Rattle.tis_cli.specs.declared.runs.Run.{Run}
-use Rattle.tis_cli.specs.Answers.{Completion, AllDone, Limited, Stopped, Refuses, Makes, Destination, Put, completion_status}
+use Rattle.tis_cli.specs.Answers.{Completion, AllDone, Limited, Stopped, Failed, Refuses, Makes, Destination, Put, completion_status}
 use Rattle.tis_cli.specs.Commands.{Command, destination_of, IsPromised}
 use Rattle.tis_cli.specs.Outcomes.{Arrives, IfAllDone, IsAnswered, IsCutShort, Explains, IsRun, IsRefusal, HasNoRun, Runs, IsPut, AreEnds, Finishes}
 
@@ -17,6 +17,7 @@ runs_end command told (Err Missing) is = tt
 runs_end command told (Err StoreFault) is = tt
 runs_end command told (Err NoMemory) is = tt
 runs_end command told (Err Done) is = is
+runs_end command told (Err (NotPassed seed verdict)) is = is
 runs_end command told (Err Words) is = is
 runs_end command told (Err SinkFault) is = is
 runs_end command told (Err (Limit done)) is = is
@@ -39,6 +40,7 @@ module _ (command : Command) (puts : destination_of command ≡ Put) (promised :
   if_done found AllDone bytes = promised found bytes
   if_done found (Limited done) bytes = tt
   if_done found (Stopped index) bytes = tt
+  if_done found (Failed seed verdict) bytes = tt
 
   -- a report that was put
   reported : (run : Run) (is : IsRun command told run) (old written : Option (List ℕ)) → written ≡ option_map (λ before. before ++ run.report.items) old → (texts : Texts) → told ≡ Some texts → IsAnswered command texts old (completion_status is.completion) (record { texts = new; written = written })
@@ -58,6 +60,7 @@ module _ (command : Command) (puts : destination_of command ≡ Put) (promised :
   by_end AllDone old written answered = answered
   by_end (Limited done) old written answered = answered
   by_end (Stopped index) old written answered = answered
+  by_end (Failed seed verdict) old written answered = answered
 
   cut : (run : Run) → IsRun command told run → (old written : Option (List ℕ)) → WrotePrefix old run.report.items written → (texts : Texts) → told ≡ Some texts → IsCutShort command texts old written
   cut run is old written wrote texts are = record { found = is.found; completion = is.completion; report = run.report.items; stand = is.are texts are; comes = is.comes; wrote = wrote }
@@ -77,6 +80,7 @@ module _ (command : Command) (puts : destination_of command ≡ Put) (promised :
   before StoreFault is old written same = tt
   before NoMemory is old written same = tt
   before Done is old written same = absurd is
+  before (NotPassed seed verdict) is old written same = absurd is
   before Words is old written same = absurd is
   before SinkFault is old written same = absurd is
   before (Limit done) is old written same = absurd is

@@ -2,13 +2,13 @@
 use Rattle.std.proofs.Common.{◌≡◌, ℕ, List, [], ◌∷◌, Option, Some, None, refl, sym, ap, subst, ◌∙◌, inl, inr}
 use Rattle.tis_base.specs.Outside.{Texts}
 use Rattle.tis_cli.specs.declared.status.Status.{Status}
-use Rattle.tis_cli.specs.declared.status.Status.TheVariants.{Done, Words, Refused, Missing, StoreFault, SinkFault, NoMemory, Limit}
+use Rattle.tis_cli.specs.declared.status.Status.TheVariants.{Done, NotPassed, Words, Refused, Missing, StoreFault, SinkFault, NoMemory, Limit}
 use Rattle.tis_cli.specs.declared.status.Refusal.{Refusal}
 use Rattle.net_column.specs.Net.{Net}
 use Rattle.net_column.specs.Compiled.{compiled}
 use Rattle.tis_save.specs.Writing.{save_text}
-use Rattle.tis_cli.specs.Answers.{Completion, AllDone, Limited, Stopped, Answer, Refuses, Makes, Destination, Kept, Put, answer_status}
-use Rattle.tis_cli.specs.Commands.{Command, Compile, Run, Order, Replay, Debug, RunsTo, OrdersTo, ReplaysTo, DebugsTo, command_of, fetched, destination_of, CompilesTo, ComesTo, AnswersAreOne}
+use Rattle.tis_cli.specs.Answers.{Completion, AllDone, Limited, Stopped, Failed, Answer, Refuses, Makes, Destination, Kept, Put, answer_status}
+use Rattle.tis_cli.specs.Commands.{Command, Compile, Run, Order, Replay, Grade, RunsTo, OrdersTo, ReplaysTo, GradesTo, command_of, fetched, destination_of, CompilesTo, ComesTo, AnswersAreOne, Debug, DebugsTo}
 use Rattle.tis_cli.specs.Outcomes.{IsCalled, PutsBytes, texts_under, World, IsOfAnswer, IsAnswered, IsCutShort, IsUnlessFailure, Explains}
 use Rattle.net_column.proofs.Found.{texts_have_one_net}
 
@@ -53,6 +53,12 @@ replays_once (save ∷ spec ∷ []) one other first second = absurd first
 replays_once (save ∷ spec ∷ events ∷ []) one other first second = first ∙ sym second
 replays_once (save ∷ spec ∷ events ∷ more ∷ texts) one other first second = absurd first
 
+grades_once : (limit : ℕ) (seeds : List ℕ) (texts : List (List ℕ)) (one other : Answer) → GradesTo limit seeds texts one → GradesTo limit seeds texts other → one ≡ other
+grades_once limit seeds [] one other first second = absurd first
+grades_once limit seeds (save ∷ []) one other first second = absurd first
+grades_once limit seeds (save ∷ spec ∷ []) one other first second = first ∙ sym second
+grades_once limit seeds (save ∷ spec ∷ more ∷ texts) one other first second = absurd first
+
 debugs_once : (texts : List (List ℕ)) (one other : Answer) → DebugsTo texts one → DebugsTo texts other → one ≡ other
 debugs_once [] one other first second = absurd first
 debugs_once (save ∷ []) one other first second = absurd first
@@ -65,6 +71,7 @@ answers_are_one (Compile net save) texts one other first second = compiles_once 
 answers_are_one (Run save spec seed cycles) texts one other first second = clocks_once cycles texts one other first second
 answers_are_one (Order save spec seed order_seed limit) texts one other first second = orders_once order_seed limit texts one other first second
 answers_are_one (Replay save spec seed events) texts one other first second = replays_once texts one other first second
+answers_are_one (Grade save spec limit seeds) texts one other first second = grades_once limit seeds texts one other first second
 answers_are_one (Debug save spec seed script) texts one other first second = debugs_once texts one other first second
 
 -- ---- the clauses
@@ -107,24 +114,28 @@ missing_is_none (Refuses refusal) is = cc
 missing_is_none (Makes AllDone bytes) is = cc
 missing_is_none (Makes (Limited done) bytes) is = cc
 missing_is_none (Makes (Stopped index) bytes) is = cc
+missing_is_none (Makes (Failed seed verdict) bytes) is = cc
 
 store_fault_is_none : (answer : Answer) → StoreFault ≡ answer_status answer → ⊥
 store_fault_is_none (Refuses refusal) is = cc
 store_fault_is_none (Makes AllDone bytes) is = cc
 store_fault_is_none (Makes (Limited done) bytes) is = cc
 store_fault_is_none (Makes (Stopped index) bytes) is = cc
+store_fault_is_none (Makes (Failed seed verdict) bytes) is = cc
 
 sink_fault_is_none : (answer : Answer) → SinkFault ≡ answer_status answer → ⊥
 sink_fault_is_none (Refuses refusal) is = cc
 sink_fault_is_none (Makes AllDone bytes) is = cc
 sink_fault_is_none (Makes (Limited done) bytes) is = cc
 sink_fault_is_none (Makes (Stopped index) bytes) is = cc
+sink_fault_is_none (Makes (Failed seed verdict) bytes) is = cc
 
 no_memory_is_none : (answer : Answer) → NoMemory ≡ answer_status answer → ⊥
 no_memory_is_none (Refuses refusal) is = cc
 no_memory_is_none (Makes AllDone bytes) is = cc
 no_memory_is_none (Makes (Limited done) bytes) is = cc
 no_memory_is_none (Makes (Stopped index) bytes) is = cc
+no_memory_is_none (Makes (Failed seed verdict) bytes) is = cc
 
 pub answered : (command : Command) (told : Option Texts) (written : Option (List ℕ)) (status : Status) (after : World) (texts : Texts) → told ≡ Some texts → Explains command told written status after →
     IsOfAnswer status → IsAnswered command texts written status after
@@ -133,6 +144,7 @@ answered command told written (Refused refusal) after texts is explains of = exp
 answered command told written Words after texts is explains of = absurd explains
 answered command told written SinkFault after texts is explains of = absurd (no_answer SinkFault sink_fault_is_none of)
 answered command told written (Limit done) after texts is explains of = explains texts is
+answered command told written (NotPassed seed verdict) after texts is explains of = explains texts is
 answered command told written Missing after texts is explains of = absurd (no_answer Missing missing_is_none of)
 answered command told written StoreFault after texts is explains of = absurd (no_answer StoreFault store_fault_is_none of)
 answered command told written NoMemory after texts is explains of = absurd (no_answer NoMemory no_memory_is_none of)
@@ -146,6 +158,7 @@ missing_where command told written StoreFault after texts is explains none = inr
 missing_where command told written NoMemory after texts is explains none = inr tt
 missing_where command told written SinkFault after texts is explains none = no_texts none (explains.1 texts is).stand
 missing_where command told written (Limit done) after texts is explains none = no_texts none (explains texts is).stand
+missing_where command told written (NotPassed seed verdict) after texts is explains none = no_texts none (explains texts is).stand
 missing_where command told written Words after texts is explains none = absurd explains
 
 -- the answer that was given is the one that the texts come to
@@ -162,6 +175,7 @@ complete command told written Missing after texts found answer is explains stand
 complete command told written StoreFault after texts found answer is explains stand comes = inr tt
 complete command told written NoMemory after texts found answer is explains stand comes = inr tt
 complete command told written (Limit done) after texts found answer is explains stand comes = inl (same_status command texts written (Limit done) after found answer (explains texts is) stand comes)
+complete command told written (NotPassed seed verdict) after texts found answer is explains stand comes = inl (same_status command texts written (NotPassed seed verdict) after found answer (explains texts is) stand comes)
 complete command told written SinkFault after texts found answer is explains stand comes =
     let cut = explains.1 texts is in
     let same : Makes cut.completion cut.report ≡ answer = answers_are_one command found (Makes cut.completion cut.report) answer (subst (λ (f : List (List ℕ)). ComesTo command f (Makes cut.completion cut.report)) (same_texts cut.stand stand) cut.comes) comes in

@@ -1,12 +1,12 @@
 -- What each command is: its words, what it fetches, where what it makes goes, what it comes to, and what is promised of that. A new command is a row in each of these definitions.
-use Rattle.std.specs.Prelude.{◌≡◌, ℕ, List, [], ◌∷◌, Option, Some, None, option_map, option_and_then, Ok, codes, if◌then◌else◌}
+use Rattle.std.specs.Prelude.{◌≡◌, ℕ, List, [], ◌∷◌, ◌&&◌, length, filter_map, Option, Some, None, option_map, option_and_then, Ok, codes, nat_lt, nat_le, if◌then◌else◌}
 use Rattle.std.specs.Str.{bytes_eq}
 use Rattle.tis_cli.specs.declared.command.Command as held
 use Rattle.tis_cli.specs.declared.command.Command.TheVariants as held_as
 use Rattle.tis_cli.specs.declared.status.Refusal.TheVariants.{NotThisForm}
 use Rattle.tis_cli.specs.Answers.{Answer, Refuses, Makes, AllDone, Destination, Kept, Put}
 use Rattle.tis_words.specs.Numerals.{number_of}
-use Rattle.tis_cli.specs.Runs.{run_answer, order_answer, replay_answer, debug_answer}
+use Rattle.tis_cli.specs.Runs.{run_answer, order_answer, replay_answer, grade_answer, debug_answer}
 use Rattle.net_column.specs.Net.{Net}
 use Rattle.net_column.specs.Column.{NetOf}
 use Rattle.net_column.specs.Compiled.{compiled}
@@ -24,6 +24,8 @@ pub data Command : Type 0 where
   Order : (save : List ℕ) → (spec : List ℕ) → (seed : ℕ) → (order_seed : ℕ) → (limit : ℕ) → Command
   -- runs a save over a specification by the events of a text
   Replay : (save : List ℕ) → (spec : List ℕ) → (seed : ℕ) → (events : List ℕ) → Command
+  -- grades a save over a specification for each of some seeds, up to so many cycles
+  Grade : (save : List ℕ) → (spec : List ℕ) → (limit : ℕ) → (seeds : List ℕ) → Command
   -- debugs a save over a specification by the commands of a script
   Debug : (save : List ℕ) → (spec : List ℕ) → (seed : ℕ) → (script : List ℕ) → Command
 
@@ -46,6 +48,23 @@ order_with save spec seed order_seed limit = option_and_then (λ s. option_and_t
 abbrev pub replay_with : List ℕ → List ℕ → Option ℕ → List ℕ → Option Command
 replay_with save spec seed events = option_map (λ s. Replay save spec s events) seed
 
+-- the numbers of words that are seeds, where all of them are
+abbrev pub all_seeds : List (List ℕ) → Option (List ℕ)
+all_seeds [] = Some []
+all_seeds (word ∷ words) = option_and_then (λ seed. option_map (λ seeds. seed ∷ seeds) (all_seeds words)) (seed_of word)
+
+-- one to eight seeds
+abbrev pub seeds_of : List (List ℕ) → Option (List ℕ)
+seeds_of words = if nat_lt 0 (length words) && nat_le (length words) 8 then all_seeds words else None
+
+abbrev pub grade_with : List ℕ → List ℕ → Option ℕ → Option (List ℕ) → Option Command
+grade_with save spec limit seeds = option_and_then (λ l. option_map (λ all. Grade save spec l all) seeds) limit
+
+-- the command `grade` of these words, where they are one: it is the one with any number of words
+abbrev pub grade_of : List (List ℕ) → Option Command
+grade_of (word ∷ save ∷ spec ∷ limit ∷ seeds) = if bytes_eq word (codes "grade") then grade_with save spec (limit_of limit) (seeds_of seeds) else None
+grade_of _ = None
+
 abbrev pub debug_with : List ℕ → List ℕ → Option ℕ → List ℕ → Option Command
 debug_with save spec seed script = option_map (λ s. Debug save spec s script) seed
 
@@ -55,9 +74,13 @@ command_of (word ∷ net ∷ save ∷ []) = if bytes_eq word (codes "compile") t
 command_of (word ∷ save ∷ spec ∷ seed ∷ last ∷ []) =
     if bytes_eq word (codes "run") then run_with save spec (seed_of seed) (limit_of last)
     else (if bytes_eq word (codes "replay") then replay_with save spec (seed_of seed) last
-    else (if bytes_eq word (codes "debug") then debug_with save spec (seed_of seed) last else None))
-command_of (word ∷ save ∷ spec ∷ seed ∷ order_seed ∷ limit ∷ []) = if bytes_eq word (codes "order") then order_with save spec (seed_of seed) (seed_of order_seed) (limit_of limit) else None
-command_of _ = None
+    else (if bytes_eq word (codes "debug") then debug_with save spec (seed_of seed) last else grade_of (word ∷ save ∷ spec ∷ seed ∷ last ∷ [])))
+command_of (word ∷ save ∷ spec ∷ seed ∷ order_seed ∷ limit ∷ []) = if bytes_eq word (codes "order") then order_with save spec (seed_of seed) (seed_of order_seed) (limit_of limit) else grade_of (word ∷ save ∷ spec ∷ seed ∷ order_seed ∷ limit ∷ [])
+command_of words = grade_of words
+
+-- the seeds that the program holds
+abbrev pub kept_seeds : List (Option ℕ) → List ℕ
+kept_seeds kept = filter_map (λ seed. seed) kept
 
 -- what contracts see of a command that the program holds
 abbrev pub command_view : held.Command → Command
@@ -65,6 +88,7 @@ command_view (held_as.Compile net save) = Compile net.now save.now
 command_view (held_as.Run save spec seed cycles) = Run save.now spec.now seed cycles
 command_view (held_as.Order save spec seed order_seed limit) = Order save.now spec.now seed order_seed limit
 command_view (held_as.Replay save spec seed events) = Replay save.now spec.now seed events.now
+command_view (held_as.Grade save spec limit seeds) = Grade save.now spec.now limit (kept_seeds seeds)
 command_view (held_as.Debug save spec seed script) = Debug save.now spec.now seed script.now
 
 -- ---- compile
@@ -87,7 +111,7 @@ pub record IsCompiled (texts : List (List ℕ)) (bytes : List ℕ) : Type 0 wher
   pub reads_back : save_of bytes net.tiles ≡ Ok (compiled net)
   pub carries : Carries (compiled net) net
 
--- ---- run, order, replay and debug
+-- ---- run, order, replay, grade and debug
 
 -- two texts are fetched
 abbrev pub RunsTo : ℕ → List (List ℕ) → Answer → Type 0
@@ -111,6 +135,13 @@ ReplaysTo (text ∷ []) answer = ⊥
 ReplaysTo (save ∷ spec ∷ []) answer = ⊥
 ReplaysTo (save ∷ spec ∷ events ∷ other ∷ texts) answer = ⊥
 
+-- two texts are fetched
+abbrev pub GradesTo : ℕ → List ℕ → List (List ℕ) → Answer → Type 0
+GradesTo limit seeds (save ∷ spec ∷ []) answer = answer ≡ grade_answer save spec limit seeds
+GradesTo limit seeds [] answer = ⊥
+GradesTo limit seeds (text ∷ []) answer = ⊥
+GradesTo limit seeds (save ∷ spec ∷ other ∷ texts) answer = ⊥
+
 -- three texts are fetched
 abbrev pub DebugsTo : List (List ℕ) → Answer → Type 0
 DebugsTo (save ∷ spec ∷ script ∷ []) answer = answer ≡ debug_answer save spec script
@@ -127,6 +158,7 @@ fetched (Compile net save) = net ∷ []
 fetched (Run save spec seed cycles) = save ∷ spec ∷ []
 fetched (Order save spec seed order_seed limit) = save ∷ spec ∷ []
 fetched (Replay save spec seed events) = save ∷ spec ∷ events ∷ []
+fetched (Grade save spec limit seeds) = save ∷ spec ∷ []
 fetched (Debug save spec seed script) = save ∷ spec ∷ script ∷ []
 
 -- where what it makes goes
@@ -135,6 +167,7 @@ destination_of (Compile net save) = Kept save
 destination_of (Run save spec seed cycles) = Put
 destination_of (Order save spec seed order_seed limit) = Put
 destination_of (Replay save spec seed events) = Put
+destination_of (Grade save spec limit seeds) = Put
 destination_of (Debug save spec seed script) = Put
 
 -- what it comes to over the texts that it fetched, where nothing fails: the first refusal that the texts and then the work meet, or how the work ends and what it makes
@@ -143,6 +176,7 @@ ComesTo (Compile net save) texts answer = CompilesTo texts answer
 ComesTo (Run save spec seed cycles) texts answer = RunsTo cycles texts answer
 ComesTo (Order save spec seed order_seed limit) texts answer = OrdersTo order_seed limit texts answer
 ComesTo (Replay save spec seed events) texts answer = ReplaysTo texts answer
+ComesTo (Grade save spec limit seeds) texts answer = GradesTo limit seeds texts answer
 ComesTo (Debug save spec seed script) texts answer = DebugsTo texts answer
 
 -- what is promised of the bytes that it made, where all is done; of a report nothing more than what it comes to
@@ -151,6 +185,7 @@ IsPromised (Compile net save) texts bytes = IsCompiled texts bytes
 IsPromised (Run save spec seed cycles) texts bytes = Unit {0}
 IsPromised (Order save spec seed order_seed limit) texts bytes = Unit {0}
 IsPromised (Replay save spec seed events) texts bytes = Unit {0}
+IsPromised (Grade save spec limit seeds) texts bytes = Unit {0}
 IsPromised (Debug save spec seed script) texts bytes = Unit {0}
 
 -- ---- laws

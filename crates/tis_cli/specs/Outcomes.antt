@@ -4,8 +4,8 @@ use Rattle.std.specs.declared.alloc.Global.{Global}
 use Rattle.tis_base.specs.Outside.{Texts, text_at, with_text, WrotePrefix}
 use Rattle.tis_cli.specs.declared.status.Refusal.{Refusal}
 use Rattle.tis_cli.specs.declared.status.Status.{Status}
-use Rattle.tis_cli.specs.declared.status.Status.TheVariants.{Done, Words, Refused, Missing, StoreFault, SinkFault, NoMemory, Limit}
-use Rattle.tis_cli.specs.Answers.{Completion, AllDone, Limited, Stopped, Answer, Refuses, Makes, Destination, Kept, Put, completion_status, answer_status}
+use Rattle.tis_cli.specs.declared.status.Status.TheVariants.{Done, NotPassed, Words, Refused, Missing, StoreFault, SinkFault, NoMemory, Limit}
+use Rattle.tis_cli.specs.Answers.{Completion, AllDone, Limited, Stopped, Failed, Answer, Refuses, Makes, Destination, Kept, Put, completion_status, answer_status}
 use Rattle.tis_cli.specs.declared.runs.Run.{Run}
 use Rattle.tis_cli.specs.Commands.{Command, command_of, fetched, destination_of, ComesTo, IsPromised}
 
@@ -51,6 +51,7 @@ IfAllDone promise (Refuses refusal) = Unit {0}
 IfAllDone promise (Makes AllDone bytes) = promise bytes
 IfAllDone promise (Makes (Limited done) bytes) = Unit {0}
 IfAllDone promise (Makes (Stopped index) bytes) = Unit {0}
+IfAllDone promise (Makes (Failed seed verdict) bytes) = Unit {0}
 
 -- the status is that of an answer: of a refusal, or of work that came to its end
 abbrev pub IsOfAnswer : Status → Type 0
@@ -93,6 +94,7 @@ IsFailure puts StoreFault = Unit {0}
 IsFailure puts NoMemory = Unit {0}
 IsFailure puts SinkFault = puts
 IsFailure puts Done = ⊥
+IsFailure puts (NotPassed seed verdict) = ⊥
 IsFailure puts Words = ⊥
 IsFailure puts (Refused refusal) = ⊥
 IsFailure puts Missing = ⊥
@@ -112,6 +114,7 @@ status_after (Err status) = status
 -- what the status says of the texts, where the store tells them
 abbrev pub Explains : Command → Option Texts → Option (List ℕ) → Status → World → Type 0
 Explains command told written Done after = (texts : Texts) → told ≡ Some texts → IsAnswered command texts written Done after
+Explains command told written (NotPassed seed verdict) after = (texts : Texts) → told ≡ Some texts → IsAnswered command texts written (NotPassed seed verdict) after
 Explains command told written (Limit done) after = (texts : Texts) → told ≡ Some texts → IsAnswered command texts written (Limit done) after
 Explains command told written (Refused refusal) after = (texts : Texts) → told ≡ Some texts → IsAnswered command texts written (Refused refusal) after
 Explains command told written Missing after = (texts : Texts) → told ≡ Some texts → texts_under texts (fetched command) ≡ None
@@ -149,6 +152,7 @@ HasNoRun command told Missing = (texts : Texts) → told ≡ Some texts → text
 HasNoRun command told StoreFault = Unit {0}
 HasNoRun command told NoMemory = Unit {0}
 HasNoRun command told Done = ⊥
+HasNoRun command told (NotPassed seed verdict) = ⊥
 HasNoRun command told Words = ⊥
 HasNoRun command told SinkFault = ⊥
 HasNoRun command told (Limit done) = ⊥
@@ -172,6 +176,7 @@ AreEnds (Err Missing) = Unit {0}
 AreEnds (Err StoreFault) = Unit {0}
 AreEnds (Err NoMemory) = Unit {0}
 AreEnds (Err Done) = ⊥
+AreEnds (Err (NotPassed seed verdict)) = ⊥
 AreEnds (Err Words) = ⊥
 AreEnds (Err SinkFault) = ⊥
 AreEnds (Err (Limit done)) = ⊥

@@ -1,5 +1,5 @@
--- What `run`, `order`, `replay` and `debug` come to over the texts that they fetch: the first refusal, or the report of what the grid did.
-use Rattle.std.specs.Prelude.{ℕ, zero, suc, ◌+◌, List, [], ◌∷◌, length, Option, Some, None, unwrap_or, Result, Ok, Err}
+-- What `run`, `order`, `replay`, `grade` and `debug` come to over the texts that they fetch: the first refusal, or the report of what the grid did.
+use Rattle.std.specs.Prelude.{ℕ, zero, suc, ◌+◌, List, [], ◌∷◌, ◌++◌, length, Option, Some, None, unwrap_or, Result, Ok, Err}
 use Rattle.tis_asm.specs.declared.error.AsmError.{AsmError}
 use Rattle.tis_asm.specs.declared.error.AsmError.TheVariants as code
 use Rattle.tis_asm.specs.Assembling as asm
@@ -20,11 +20,14 @@ use Rattle.tis_grid_text.specs.declared.error.GridTextError.{GridTextError}
 use Rattle.tis_grid_text.specs.declared.error.GridTextError.TheVariants as held_grid
 use Rattle.tis_grid_text.specs.GridText as text
 use Rattle.tis_grid_text.specs.EventsText.{events_of}
-use Rattle.tis_debug.specs.declared.script.Action.{Action}
-use Rattle.tis_debug.specs.Scripts.{script_of, debug_text}
+use Rattle.tis_grade.specs.declared.cases.Case.{Case}
+use Rattle.tis_grade.specs.declared.cases.Failed.{Failed}
+use Rattle.tis_grade.specs.Reports.{graded}
 use Rattle.tis_report.specs.Reports.{ended_text, replayed_text, not_enabled_text}
 use Rattle.tis_cli.specs.declared.status.Refusal.TheVariants.{Save, Grid as Grid_text, Events, Script}
-use Rattle.tis_cli.specs.Answers.{Answer, Refuses, Makes, AllDone, Limited, Stopped}
+use Rattle.tis_cli.specs.Answers.{Completion, Answer, Refuses, Makes, AllDone, Limited, Stopped, Failed as Fails}
+use Rattle.tis_debug.specs.declared.script.Action.{Action}
+use Rattle.tis_debug.specs.Scripts.{script_of, debug_text}
 
 -- ---- refusals, as they are held
 
@@ -124,6 +127,22 @@ replayed_from grid index (event ∷ events) state = replayed_at grid.puzzle stat
 abbrev pub replayed : Result (List Event) ℕ → Grid → Answer
 replayed order grid = over_events order (λ events. replayed_from grid 0 events (start grid))
 
+-- ---- grades
+
+-- what follows over these cases and those of a save and a specification for further seeds, each of which is made before the next
+abbrev pub over_cases : List ℕ → List ℕ → List Case → List ℕ → (List Case → Answer) → Answer
+over_cases saved spec cases [] next = next cases
+over_cases saved spec cases (seed ∷ seeds) next = over_grid saved spec (λ grid. over_cases saved spec (cases ++ record { seed = seed; grid = grid } ∷ []) seeds next)
+
+-- how a grade ends: all is done where each seed is passed, and else at the first that isn't
+abbrev pub grade_completion : Option Failed → Completion
+grade_completion None = AllDone
+grade_completion (Some failed) = Fails failed.seed failed.verdict
+
+-- the grades of cases, and the report that tells them
+abbrev pub grades : ℕ → List Case → Answer
+grades limit cases = Makes (grade_completion (graded limit cases).failed) (graded limit cases).report
+
 -- ---- a session of the debugger
 
 -- what a script prints over a grid from its start; the whole script is looked at before anything is done
@@ -140,6 +159,10 @@ order_answer saved spec seed limit = over_grid saved spec (ordered seed limit)
 
 unfoldable pub replay_answer : List ℕ → List ℕ → List ℕ → Answer
 replay_answer saved spec events = over_grid saved spec (replayed (events_of events))
+
+-- the save and the specification are read for each seed before the first is graded
+unfoldable pub grade_answer : List ℕ → List ℕ → ℕ → List ℕ → Answer
+grade_answer saved spec limit seeds = over_cases saved spec [] seeds (grades limit)
 
 unfoldable pub debug_answer : List ℕ → List ℕ → List ℕ → Answer
 debug_answer saved spec script = over_grid saved spec (debugged (script_of script))

@@ -17,13 +17,14 @@ use Rattle.tis_base.specs.declared.store.StoreError.TheVariants as fault
 use Rattle.net_column.specs.declared.tree.NetError.{NetError}
 use Rattle.net_column.specs.declared.tree.NetError.TheVariants as unread
 use Rattle.tis_cli.specs.declared.status.Status.{Status}
-use Rattle.tis_cli.specs.declared.status.Status.TheVariants.{Done, Words, Refused, Missing, StoreFault, SinkFault, NoMemory, Limit}
+use Rattle.tis_cli.specs.declared.status.Status.TheVariants.{Done, NotPassed, Words, Refused, Missing, StoreFault, SinkFault, NoMemory, Limit}
 use Rattle.tis_cli.specs.declared.status.Refusal.{Refusal}
 use Rattle.tis_cli.specs.declared.status.Refusal.TheVariants.{NotThisForm, Save, Grid, Events, NotEnabled, Script}
 
 -- the number that the program ends with
 abbrev pub number_of : Status → ℕ
 number_of Done = 0
+number_of (NotPassed seed verdict) = 1
 number_of Words = 2
 number_of (Refused refusal) = 3
 number_of Missing = 4
@@ -69,6 +70,7 @@ refusal_words (Script line) = with_number (codes "Script ") line
 -- the line that says how the program ended, without its LF
 abbrev pub status_line : Status → List ℕ
 status_line Done = []
+status_line (NotPassed seed verdict) = codes "not passed"
 status_line Words = codes "not a command"
 status_line (Refused refusal) = codes "refused " ++ refusal_words refusal
 status_line Missing = codes "missing"

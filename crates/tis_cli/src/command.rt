@@ -1,9 +1,12 @@
 //! The words of the command line.
-ghost use Rattle.std.specs.Prelude.{◌≡◌, option_map, string_bytes};
-ghost use Rattle.tis_cli.specs.Commands.{command_of, command_view, seed_of as seed_in, limit_of as limit_in, run_with, order_with, replay_with, debug_with};
+ghost use Rattle.std.specs.Prelude.{◌≡◌, map, option_map, string_bytes};
+ghost use Rattle.tis_cli.specs.Commands.{command_of, command_view, seed_of as seed_in, limit_of as limit_in, seeds_of as seeds_in, kept_seeds, run_with, order_with, replay_with, grade_with, debug_with};
 ghost use Rattle.tis_cli.specs.Outcomes.{words_of};
 
 use tis_words::number_of;
+
+/// How many seeds a grade takes at most.
+pub(crate) const SEEDS: usize = 8;
 
 /// A command with its words.
 #[derive(Clone, Copy, Debug)]
@@ -34,6 +37,13 @@ pub enum Command<'a> {
         spec: &'a str,
         seed: u64,
         events: &'a str,
+    },
+    /// Grades a save over a specification for one to eight seeds, which stand first to last.
+    Grade {
+        save: &'a str,
+        spec: &'a str,
+        limit: u64,
+        seeds: [Option<u64>; SEEDS],
     },
     /// Debugs a save over a specification by the commands of a script.
     Debug {
@@ -111,6 +121,37 @@ fn replay<'a>(
     })
 }
 
+// The numbers of words that are one to eight seeds, first to last.
+fn seeds_of(words: &[String]) -> Option<[Option<u64>; SEEDS]>
+    ensures { seeds_in (map string_bytes words.now) ≡ option_map (λ kept. kept_seeds kept) result }
+{
+    if words.is_empty() || SEEDS < words.len() {
+        return None;
+    }
+    let mut seeds = [None; SEEDS];
+    for index in 0..words.len() {
+        seeds[index] = Some(seed_of(&words[index])?);
+    }
+    Some(seeds)
+}
+
+// The command `grade` with these words.
+fn grade<'a>(
+    save: &'a String,
+    spec: &'a String,
+    limit: &String,
+    seeds: &[String],
+) -> Option<Command<'a>>
+    ensures { grade_with (string_bytes save.now) (string_bytes spec.now) (limit_in (string_bytes limit.now)) (seeds_in (map string_bytes seeds.now)) ≡ option_map command_view result }
+{
+    Some(Command::Grade {
+        save: save.as_str(),
+        spec: spec.as_str(),
+        limit: limit_of(limit)?,
+        seeds: seeds_of(seeds)?,
+    })
+}
+
 // The command `debug` with these words.
 fn debug<'a>(
     save: &'a String,
@@ -148,6 +189,9 @@ pub fn read_words<'a>(words: &'a [String]) -> Option<Command<'a>>
         }
         [word, save, spec, seed, order_seed, limit] if word.as_str() == "order" => {
             order(save, spec, seed, order_seed, limit)
+        }
+        [word, save, spec, limit, seeds @ ..] if word.as_str() == "grade" => {
+            grade(save, spec, limit, seeds)
         }
         _ => None,
     }

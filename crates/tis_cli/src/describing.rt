@@ -110,6 +110,7 @@ fn push_status(line: &mut Vec<u8>, status: Status) -> Result<(), NoMemory>
 {
     match status {
         Status::Done => Ok(()),
+        Status::NotPassed { .. } => push_name(line, b"not passed"),
         Status::Words => push_name(line, b"not a command"),
         Status::Refused(refusal) => {
             push_name(line, b"refused ")?;

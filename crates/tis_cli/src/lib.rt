@@ -28,7 +28,7 @@
 //! # What it costs
 //!
 //! A `compile` goes over its text from left to right once, and holds the text, the network, its programs and
-//! the save in memory. A `run`, an `order` or a `replay` holds its texts, the grid with two bytes for each value of an
+//! the save in memory. A `run`, an `order`, a `replay` or a `grade` holds its texts, the grid with two bytes for each value of an
 //! output, and the report.
 //!
 //! # What it doesn't do
@@ -38,6 +38,7 @@
 
 mod command;
 mod describing;
+mod grades;
 mod laws;
 mod run;
 mod runs;

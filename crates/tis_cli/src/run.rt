@@ -2,10 +2,11 @@
 ghost use Rattle.std.specs.Prelude.{◌≡◌, ◌≢◌, ◌↔◌, ◌⊎◌, ℕ, List, Option, Some, None, OnOk, OnErr, IfErr, IsErrOf};
 ghost use Rattle.tis_base.specs.Outside.{Texts, Rose};
 ghost use Rattle.tis_cli.specs.Answers.{Answer, Put, answer_status};
-ghost use Rattle.tis_cli.specs.Commands.{Command as SomeCommand, Compile, Run as ByClock, Order, Replay, Debug, command_of, command_view, fetched, destination_of, ComesTo};
+ghost use Rattle.tis_cli.specs.Commands.{Command as SomeCommand, Compile, Run as ByClock, Order, Replay, Grade, Debug, command_of, command_view, kept_seeds, fetched, destination_of, ComesTo};
 ghost use Rattle.tis_cli.specs.Outcomes.{words_of, IsCalled, PutsReport, PutsBytes, texts_under, IsOfAnswer, IsOfWork, IsAnswered, IsCutShort, IsUnlessFailure, status_after, Explains, Runs, IsPut, AreEnds, Finishes};
 
-use crate::command::{Command, read_words};
+use crate::command::{Command, SEEDS, read_words};
+use crate::grades::grade;
 use crate::runs::{Run, clock, debug, order, replay};
 use crate::status::Status;
 use net_column::{emit, read_net};
@@ -102,6 +103,27 @@ fn work_of_replay<S: Store>(
     replay(alloc, &saved, &spec, &events)
 }
 
+// What the grades of a save over a specification under these names come to.
+fn work_of_grade<S: Store>(
+    alloc: Global,
+    save: &str,
+    spec: &str,
+    limit: u64,
+    seeds: &[Option<u64>; SEEDS],
+    store: &mut S,
+) -> Result<Run, Status>
+    ensures runs { Runs (Grade save.now spec.now limit (kept_seeds seeds.now)) (S.texts store.old) result }
+    ensures texts_stay { S.texts store.new ≡ S.texts store.old }
+    ensures missing_counted { IsErrOf result Status.Missing → Rose (S.misses store.old) (S.misses store.new) }
+    ensures fault_counted { IsErrOf result Status.StoreFault → Rose (S.faults store.old) (S.faults store.new) }
+    ensures misses_stay { result ≢ Err Status.Missing → S.misses store.new ≡ S.misses store.old }
+    ensures faults_stay { result ≢ Err Status.StoreFault → S.faults store.new ≡ S.faults store.old }
+{
+    let saved = store.fetch(alloc, save)?;
+    let spec = store.fetch(alloc, spec)?;
+    grade(alloc, &saved, &spec, limit, seeds)
+}
+
 // What the script under one name comes to over the texts under the others.
 fn work_of_debug<S: Store>(
     alloc: Global,
@@ -191,6 +213,12 @@ fn perform<S: Store, K: Sink>(alloc: Global, command: Command, store: &mut S, ou
             events,
             ..
         } => finish(work_of_replay(alloc, save, spec, events, store), out),
+        Command::Grade {
+            save,
+            spec,
+            limit,
+            seeds,
+        } => finish(work_of_grade(alloc, save, spec, limit, &seeds, store), out),
         Command::Debug {
             save,
             spec,
@@ -206,9 +234,9 @@ fn perform<S: Store, K: Sink>(alloc: Global, command: Command, store: &mut S, ou
 /// network that it is under the name SAVE. `run SAVE SPEC SEED CYCLES` runs a save over a specification cycle
 /// by cycle, and puts a report; `order SAVE SPEC SEED ORDERSEED LIMIT` runs it in an order that is drawn with
 /// ORDERSEED; `replay SAVE SPEC SEED EVENTS`
-/// runs it by the events of a text; `debug SAVE SPEC SEED SCRIPT` does what the lines of a script say, each a command of
-/// the debugger. Other words are no command. The words are looked at
-/// first, then the names, then the texts in the order in which a command reads them, then its work;
+/// runs it by the events of a text; `grade SAVE SPEC LIMIT SEED [SEED ..]` says whether it passes for each of one to eight
+/// seeds; `debug SAVE SPEC SEED SCRIPT` does what the lines of a script say, each a command of the debugger. Other words
+/// are no command. The words are looked at first, then the names, then the texts in the order in which a command reads them, then its work;
 /// what it makes is kept, or put as a report, at the end.
 pub fn tool<S: Store, K: Sink>(
     alloc: Global,

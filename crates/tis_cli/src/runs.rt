@@ -23,8 +23,8 @@ pub(crate) struct Run {
     pub(crate) report: Vec<u8>,
 }
 
-// The grid of a save and a specification, which is looked at first.
-fn open_grid(alloc: Global, save: &[u8], spec: &[u8]) -> Result<Grid, Status>
+/// The grid of a save and a specification, which is looked at first.
+pub(crate) fn open_grid(alloc: Global, save: &[u8], spec: &[u8]) -> Result<Grid, Status>
     ensures { (next : SomeGrid → Answer) → Opens result (over_grid save.now spec.now next) next }
 {
     let puzzle = read_grid(alloc, spec)?;

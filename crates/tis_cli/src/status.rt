@@ -5,6 +5,7 @@ ghost use Rattle.tis_cli.specs.Statuses.{number_of};
 use net_column::NetError;
 use tis_base::{NoMemory, SinkError, StoreError};
 use tis_debug::ScriptError;
+use tis_grade::Verdict;
 use tis_grid_text::{EventsError, GridTextError};
 use tis_save::SaveError;
 
@@ -30,6 +31,8 @@ pub enum Refusal {
 pub enum Status {
     /// It did what the words say.
     Done,
+    /// For this seed, the first for which it is so, the solution isn't passed.
+    NotPassed { seed: u64, verdict: Verdict },
     /// The words are no command.
     Words,
     /// A text was refused.
@@ -47,12 +50,13 @@ pub enum Status {
 }
 
 impl Status {
-    /// The number that the program ends with: 0, or from 2 to 8.
+    /// The number that the program ends with, from 0 to 8.
     pub fn number(&self) -> u8
         ensures { result ≡ number_of self.now }
     {
         match self {
             Status::Done => 0,
+            Status::NotPassed { .. } => 1,
             Status::Words => 2,
             Status::Refused(_) => 3,
             Status::Missing => 4,

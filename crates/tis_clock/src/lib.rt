@@ -9,8 +9,8 @@
 //! # What the layers above use
 //!
 //! [`cycle`] applies the events of one cycle, [`run`] does cycle after cycle up to the first after which the grid is at
-//! rest or to a limit, and [`run_making_room`] does the same where nobody knows how much the outputs take;
-//! [`make_room`] makes the room that one cycle asks for.
+//! rest or to a limit, and [`run_making_room`] does the same where nobody knows how much the outputs take; who looks at
+//! the state between the cycles calls [`make_room`] and [`cycle`] in turn.
 //!
 //! The laws, as contracts of functions without a body: the events of a cycle are a legal order
 //! ([`cycles_are_legal`]); there is none exactly at rest ([`rest_has_no_cycle`]); each tile does one thing in a cycle

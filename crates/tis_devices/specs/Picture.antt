@@ -1,5 +1,5 @@
 -- The picture that an output draws on the console: what its values, first to last, make of a black one.
-use Rattle.std.specs.Prelude.{◌≡◌, ℕ, ◌+◌, ◌*◌, ◌≤◌, ℤ, pos, negsuc, Bool, ◌&&◌, List, [], ◌∷◌, ◌++◌, length, replicate, slice_set, min, All, nat_lt, nat_le, if◌then◌else◌}
+use Rattle.std.specs.Prelude.{◌≡◌, ℕ, ◌+◌, ◌*◌, ◌≤◌, ℤ, pos, negsuc, Bool, ◌&&◌, List, [], ◌∷◌, ◌++◌, length, replicate, slice_set, min, All, Option, Some, None, nat_lt, nat_le, if◌then◌else◌}
 
 -- how many columns the console has, from the left
 abbrev pub COLUMNS : ℕ
@@ -35,6 +35,12 @@ black = record { colours = replicate (COLUMNS * ROWS) 0; place = BeforeX }
 -- the number of a point
 abbrev pub point_of : ℕ → ℕ → ℕ
 point_of x y = y * COLUMNS + x
+
+-- the column and the row of the point at which a drawing stands, where it is on the console
+abbrev pub next_point : Place → Option (ℕ × ℕ)
+next_point BeforeX = None
+next_point (BeforeY x) = None
+next_point (Before x y) = if nat_lt x COLUMNS && nat_lt y ROWS then Some (x, y) else None
 
 -- the point is on the console, and the colour is one
 abbrev pub is_painted : ℕ → ℕ → ℕ → Bool

@@ -1,6 +1,6 @@
 //! The console on which an output draws.
 ghost use Rattle.std.specs.Prelude.{◌≡◌, ◌<◌, ◌≤◌, Some, slice_get};
-ghost use Rattle.tis_devices.specs.Picture.{COLUMNS, ROWS, black, after_value, point_of, RED};
+ghost use Rattle.tis_devices.specs.Picture.{COLUMNS, ROWS, black, after_value, next_point as next_point_of, point_of, RED};
 
 use std::marker::Model;
 use tis_base::Value;
@@ -86,6 +86,17 @@ impl Console {
                 }
             }
         };
+    }
+
+    /// The column and the row of the point that the next value paints where it is a colour, or None where the
+    /// next value is an X or a Y, or the drawing stands beside the console.
+    pub fn next_point(&self) -> Option<(u8, u8)>
+        ensures { result ≡ next_point_of self.now.place }
+    {
+        match self.place {
+            Place::Before { x, y } if x < WIDTH && y < HEIGHT => Some((x as u8, y as u8)),
+            _ => None,
+        }
     }
 
     /// The colour of a point, from 0 to 4.

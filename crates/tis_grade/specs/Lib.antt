@@ -1,1 +1,5 @@
 pub mod Verdict
+pub mod Following
+pub mod Counts
+pub mod Laws
+pub mod Reports

@@ -1,6 +1,6 @@
 -- What a grade says: the first number of cycles at which the outputs decide it, and how.
-use Rattle.std.specs.Prelude.{ℕ, zero, suc, ◌+◌, ℤ, pos, Bool, true, false, ◌&&◌, List, [], ◌∷◌, length, map, filter, flat_map, Option, Some, None, ◌==◌, nat_lt, if◌then◌else◌}
-use Rattle.std.specs.List.{list_all, range_with_len}
+use Rattle.std.specs.Prelude.{ℕ, zero, suc, ◌+◌, ℤ, pos, Bool, true, false, ◌&&◌, List, [], ◌∷◌, length, map, Option, Some, None, option_and_then, ◌==◌, nat_lt, if◌then◌else◌}
+use Rattle.std.specs.List.{find, list_all, range_with_len}
 use Rattle.std.specs.Option.{option_or}
 use Rattle.std.specs.Ordering.{int_eq}
 use Rattle.tis_devices.specs.Picture.{picture}
@@ -32,9 +32,6 @@ abbrev pub fault_by : OutKind → ℕ → List ℤ → List ℤ → Option Verdi
 fault_by Stream position wanted taken = option_or (first_wrong position 0 wanted taken) (extra position wanted taken)
 fault_by Image position wanted taken = None
 
-abbrev pub output_fault : State → Output → Option Verdict
-output_fault state output = fault_by output.kind output.position output.expected (outs state output.position)
-
 -- whether the same values stand in two lists
 abbrev pub are_same : List ℤ → List ℤ → Bool
 are_same [] [] = true
@@ -52,15 +49,32 @@ is_done state output = is_done_by output.kind output.expected (outs state output
 
 -- ---- all outputs
 
--- the outputs of a grid by ascending position
-abbrev pub outputs_in_order : Grid → List Output
-outputs_in_order grid =
-    flat_map (λ position. filter (λ output. output.position == position) grid.puzzle.outputs) (range_with_len 0 grid.puzzle.tiles.shape.columns)
+-- the output at a position, where one stands
+abbrev pub output_at : List Output → ℕ → Option Output
+output_at outputs position = find (λ output. output.position == position) outputs
 
--- what is wrong with the first output with which something is
-abbrev pub first_fault : State → List Output → Option Verdict
-first_fault state [] = None
-first_fault state (output ∷ outputs) = option_or (output_fault state output) (first_fault state outputs)
+-- what is wrong with the output at a position, where one stands that took these values
+abbrev pub fault_with : List Output → ℕ → List ℤ → Option Verdict
+fault_with outputs position taken = option_and_then (λ output. fault_by output.kind position output.expected taken) (output_at outputs position)
+
+abbrev pub fault_at : List Output → State → ℕ → Option Verdict
+fault_at outputs state position = fault_with outputs position (outs state position)
+
+-- what is wrong at the first of these positions at which something is
+abbrev pub first_fault_at : List Output → State → List ℕ → Option Verdict
+first_fault_at outputs state [] = None
+first_fault_at outputs state (position ∷ positions) = option_or (fault_at outputs state position) (first_fault_at outputs state positions)
+
+-- the positions below the columns, ascending
+abbrev pub all_positions : Grid → List ℕ
+all_positions grid = range_with_len 0 grid.puzzle.tiles.shape.columns
+
+abbrev pub first_fault : Grid → State → Option Verdict
+first_fault grid state = first_fault_at grid.puzzle.outputs state (all_positions grid)
+
+-- whether each output is as wanted
+abbrev pub are_done : Grid → State → Bool
+are_done grid state = list_all (is_done state) grid.puzzle.outputs
 
 -- ---- verdicts
 
@@ -73,23 +87,22 @@ is_none (event ∷ events) = false
 abbrev pub where_ : Bool → Verdict → Option Verdict
 where_ test verdict = if test then Some verdict else None
 
--- what the state after so many cycles decides: first what is wrong, then that all is as wanted, then that nothing more can happen, then that no more cycles are allowed
-abbrev pub decided : Grid → ℕ → State → ℕ → Option Verdict
-decided grid limit state cycles =
-    option_or (first_fault state (outputs_in_order grid))
-    (option_or (where_ (list_all (is_done state) grid.puzzle.outputs) (Passed cycles))
-    (option_or (where_ (is_none (enabled_events grid state)) (Stuck cycles))
-    (where_ (cycles == limit) (Late limit))))
+-- what the state after so many cycles decides: first what is wrong, then that all is as wanted, then that nothing more can happen
+abbrev pub decided : Grid → State → ℕ → Option Verdict
+decided grid state cycles =
+    option_or (first_fault grid state)
+    (option_or (where_ (are_done grid state) (Passed cycles))
+    (where_ (is_none (enabled_events grid state)) (Stuck cycles)))
 
 -- the verdict of a state, or else what follows
 abbrev pub or_later : Option Verdict → Verdict → Verdict
 or_later None later = later
 or_later (Some verdict) later = verdict
 
--- the first verdict from the state after so many cycles on, with so many cycles more allowed
+-- the first verdict from the state after so many cycles on, with so many cycles more allowed; where none of these states decides, it is too late
 abbrev pub verdict_from : Grid → ℕ → State → ℕ → ℕ → Verdict
-verdict_from grid limit state cycles zero = or_later (decided grid limit state cycles) (Late limit)
-verdict_from grid limit state cycles (suc more) = or_later (decided grid limit state cycles) (verdict_from grid limit (after_cycle grid state) (cycles + 1) more)
+verdict_from grid limit state cycles zero = or_later (decided grid state cycles) (Late limit)
+verdict_from grid limit state cycles (suc more) = or_later (decided grid state cycles) (verdict_from grid limit (after_cycle grid state) (cycles + 1) more)
 
 -- the verdict of a grid: the states after 0, 1, 2 cycles and so on are looked at, up to the limit, and the first that decides gives it
 abbrev pub verdict_of : Grid → ℕ → Verdict

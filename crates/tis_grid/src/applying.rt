@@ -15,6 +15,7 @@ use tis_base::{Dir, Tile, Value};
 impl Grid {
     /// Applies an event that is enabled. One that gives to an output uses up one of its spare places; it takes no
     /// memory.
+    #[inline]
     pub fn apply(&self, state: &mut State, event: Event)
         requires fits { Fits self.now state.old.state }
         requires enabled { IsEnabled self.now state.old.state event }
@@ -29,6 +30,7 @@ impl Grid {
     }
 
     // Does what an event does.
+    #[inline]
     fn act(&self, state: &mut State, event: Event)
         requires fits { Fits self.now state.old.state }
         requires enabled { IsEnabled self.now state.old.state event }
@@ -47,6 +49,7 @@ impl Grid {
     }
 
     // The next value of an input that has one left.
+    #[inline]
     fn next_value(&self, state: &State, position: u8) -> Value
         requires fits { Fits self.now state.now.state }
         requires left { 0 < at.left_at state.now.state position }
@@ -60,18 +63,20 @@ impl Grid {
     }
 
     // The value that a tile gives to a port.
+    #[inline]
     fn offered(&self, state: &State, tile: Tile, dir: Dir) -> Value
         requires within { tile.number < length state.now.state.nodes }
         requires offers { IsSome (table.offers (at.node_at state.now.state tile.number) dir) }
         ensures { result ≡ offered state.now.state tile.number dir }
     {
-        match state.node(tile).offers(dir) {
+        match state.node_of(tile).offers(dir) {
             Some(value) => value,
             None => unreachable!(),
         }
     }
 
     // The tile that is next in a direction, where one is there.
+    #[inline]
     pub(crate) fn reached(&self, tile: Tile, dir: Dir) -> Tile
         requires { tile.number < length self.now.puzzle.tiles.kinds }
         ensures next { result.number ≡ reached self.now tile.number dir }
@@ -84,6 +89,7 @@ impl Grid {
     }
 
     // A tile takes a value from a port.
+    #[inline]
     fn take(&self, state: &mut State, tile: Tile, dir: Dir, value: Value)
         requires there { tile.number < length self.now.puzzle.tiles.kinds }
         requires within { tile.number < length state.old.state.nodes }
@@ -97,6 +103,7 @@ impl Grid {
     }
 
     // A tile gives its value to a port.
+    #[inline]
     fn give(&self, state: &mut State, tile: Tile, dir: Dir)
         requires there { tile.number < length self.now.puzzle.tiles.kinds }
         requires within { tile.number < length state.old.state.nodes }
@@ -110,6 +117,7 @@ impl Grid {
     }
 
     // A tile does an instruction without a port.
+    #[inline]
     fn do_local(&self, state: &mut State, tile: Tile)
         requires fits { Fits self.now state.old.state }
         requires enabled { IsEnabled self.now state.old.state (events.Local tile) }
@@ -121,6 +129,7 @@ impl Grid {
     }
 
     // A tile gives to the next one, which takes.
+    #[inline]
     fn meet(&self, state: &mut State, tile: Tile, dir: Dir)
         requires fits { Fits self.now state.old.state }
         requires enabled { IsEnabled self.now state.old.state (events.Meet tile dir) }
@@ -133,6 +142,7 @@ impl Grid {
     }
 
     // The tile below an input takes its next value.
+    #[inline]
     fn take_in(&self, state: &mut State, position: u8)
         requires fits { Fits self.now state.old.state }
         requires enabled { IsEnabled self.now state.old.state (events.In position) }
@@ -144,6 +154,7 @@ impl Grid {
     }
 
     // The tile above an output gives its value, which the output takes.
+    #[inline]
     fn give_out(&self, state: &mut State, position: u8)
         requires fits { Fits self.now state.old.state }
         requires enabled { IsEnabled self.now state.old.state (events.Out position) }
@@ -158,6 +169,7 @@ impl Grid {
     }
 
     // A tile gives to a stack.
+    #[inline]
     fn push(&self, state: &mut State, tile: Tile, dir: Dir)
         requires fits { Fits self.now state.old.state }
         requires enabled { IsEnabled self.now state.old.state (events.Push tile dir) }
@@ -170,6 +182,7 @@ impl Grid {
     }
 
     // A tile takes the newest value of a stack.
+    #[inline]
     fn pop(&self, state: &mut State, tile: Tile, dir: Dir)
         requires fits { Fits self.now state.old.state }
         requires enabled { IsEnabled self.now state.old.state (events.Pop tile dir) }

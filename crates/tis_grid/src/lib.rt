@@ -46,6 +46,7 @@ mod enabling;
 mod event;
 mod grid;
 mod laws;
+mod nodes;
 mod point;
 mod puzzle;
 mod renewing;

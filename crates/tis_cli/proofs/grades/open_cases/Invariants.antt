@@ -1,0 +1,11 @@
+-- What follows over the cases so far and the seeds that are left.
+use Rattle.std.proofs.Common.{◌≡◌, List, [], drop}
+use Rattle.tis_grade.specs.declared.cases.Case.{Case}
+use Rattle.tis_cli.specs.Answers.{Answer}
+use Rattle.tis_cli.specs.Commands.{kept_seeds}
+use Rattle.tis_cli.specs.Runs.{over_cases}
+use Rattle.tis_cli.proofs.grades.open_cases.Given as goal
+
+abbrev pub invariant-loop-seed : goal.invariant-loop-seed
+invariant-loop-seed l =
+    record { follows : (next : List Case → Answer) → over_cases l.save l.spec [] (kept_seeds l.seeds) next ≡ over_cases l.save l.spec l.cases.items (kept_seeds (drop l.seed-index l.seeds)) next }

@@ -1,0 +1,81 @@
+//! A save over a specification, graded for several seeds.
+ghost use Rattle.std.specs.Prelude.{◌≡◌, [], ◌∷◌, List, Option, ℕ};
+ghost use Rattle.tis_grade.specs.declared.cases.Case.{Case as SomeCase};
+ghost use Rattle.tis_cli.specs.Answers.{Answer};
+ghost use Rattle.tis_cli.specs.Commands.{kept_seeds};
+ghost use Rattle.tis_cli.specs.Runs.{over_cases, grades, grade_answer};
+ghost use Rattle.tis_cli.specs.Ends.{Ends, OpensCases, Continues, grade_status};
+
+use crate::command::SEEDS;
+use crate::runs::{Run, open_grid};
+use crate::status::Status;
+use std::alloc::Global;
+use tis_grade::{Case, Failed, grade_all};
+
+// Reads the save and the specification for a seed, where there is one.
+fn open_case(
+    alloc: Global,
+    save: &[u8],
+    spec: &[u8],
+    seed: Option<u64>,
+    cases: &mut Vec<Case>,
+) -> Result<(), Status>
+    ensures { (seeds : List (Option ℕ)) (next : List SomeCase → Answer) → Continues result (over_cases save.now spec.now cases.old.items (kept_seeds (seed ∷ seeds)) next) (over_cases save.now spec.now cases.new.items (kept_seeds seeds) next) }
+{
+    if let Some(seed) = seed {
+        let grid = open_grid(alloc, save, spec)?;
+        cases.push(Case { seed, grid })?;
+    }
+    Ok(())
+}
+
+// The cases of a save and a specification for these seeds, each of which is made before the next.
+fn open_cases(
+    alloc: Global,
+    save: &[u8],
+    spec: &[u8],
+    seeds: &[Option<u64>; SEEDS],
+) -> Result<Vec<Case>, Status>
+    ensures { (next : List SomeCase → Answer) → OpensCases (λ cases. cases.items) result (over_cases save.now spec.now [] (kept_seeds seeds.now) next) next }
+{
+    let mut cases = Vec::new(alloc);
+    for seed in seeds {
+        open_case(alloc, save, spec, *seed, &mut cases)?;
+    }
+    Ok(cases)
+}
+
+// The status of a solution that is passed for each seed, or fails at one.
+fn status_of(failed: Option<Failed>) -> Status
+    ensures { result ≡ grade_status failed }
+{
+    match failed {
+        None => Status::Done,
+        Some(Failed { seed, verdict }) => Status::NotPassed { seed, verdict },
+    }
+}
+
+// Grades cases in order, up to the first that isn't passed.
+fn grade_cases(alloc: Global, cases: &[Case], limit: u64) -> Result<Run, Status>
+    ensures { Ends result (grades limit cases.now) }
+{
+    let graded = grade_all(alloc, cases, limit)?;
+    Ok(Run {
+        status: status_of(graded.failed),
+        report: graded.report,
+    })
+}
+
+/// What a grade comes to.
+pub(crate) fn grade(
+    alloc: Global,
+    save: &[u8],
+    spec: &[u8],
+    limit: u64,
+    seeds: &[Option<u64>; SEEDS],
+) -> Result<Run, Status>
+    ensures { Ends result (grade_answer save.now spec.now limit (kept_seeds seeds.now)) }
+{
+    let cases = open_cases(alloc, save, spec, seeds)?;
+    grade_cases(alloc, &cases, limit)
+}
