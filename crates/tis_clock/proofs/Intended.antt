@@ -1,5 +1,5 @@
 -- What a tile does, told by what it would do.
-use Rattle.std.proofs.Common.{◌≡◌, ℕ, ◌<◌, ◌≤◌, ◌*◌, true, false, cond, List, [], ◌∷◌, ◌++◌, length, Option, Some, None, refl, sym, ap, ◌∙◌, arith}
+use Rattle.std.proofs.Common.{◌≡◌, ℕ, ◌<◌, true, false, cond, [], ◌∷◌, length, Option, Some, None, refl, sym, ap, ◌∙◌, arith}
 use Rattle.std.specs.Prelude.{Bool, IsTrue, ◌&&◌, not, nat_lt, flat_map, unwrap_or, option_map}
 use Rattle.std.specs.List.{find, range_with_len}
 use Rattle.std.specs.Option.{option_or}
@@ -9,7 +9,7 @@ use Rattle.tis_base.specs.declared.tiles.Dir.{Dir}
 use Rattle.tis_base.specs.declared.tiles.Dir.TheVariants.{Left, Right, Up, Down}
 use Rattle.tis_asm.specs.Node.{is_same_dir}
 use Rattle.tis_grid.specs.declared.event.Event.{Event}
-use Rattle.tis_grid.specs.declared.event.Event.TheVariants.{Local, Meet, In, Out, Push, Pop}
+use Rattle.tis_grid.specs.declared.event.Event.TheVariants.{Local, Meet, In, Push, Pop}
 use Rattle.tis_grid.specs.State.{Grid, IsGrid, State, left_at}
 use Rattle.tis_grid.specs.Events.{next_tile, is_giving, is_waiting, has_value, has_room, is_enabled}
 use Rattle.tis_grid.proofs.Places.{next_back, next_up, some_columns}

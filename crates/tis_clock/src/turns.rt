@@ -72,13 +72,7 @@ fn was_writing(writing: &[bool; TILES], tile: Tile) -> bool
 
 // Whether a tile gives a value to a port that it was writing already when the cycle began.
 #[inline(always)]
-fn gives_old(
-    grid: &Grid,
-    writing: &[bool; TILES],
-    state: &State,
-    giver: Tile,
-    dir: Dir,
-) -> bool
+fn gives_old(grid: &Grid, writing: &[bool; TILES], state: &State, giver: Tile, dir: Dir) -> bool
     requires fits { Fits grid.now state.now.state }
     ensures { result ≡ (kept_at writing.now giver.number && is_giving grid.now state.now.state giver.number dir) }
 {

@@ -21,6 +21,7 @@ use tis_node::{Intent, Node};
 
 // How many columns, and how many tiles a grid has.
 const WIDTH: u8 = 4;
+
 const COUNT: u8 = 12;
 
 // The tile that is next in a direction, on four columns and three rows.

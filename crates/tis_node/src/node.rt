@@ -368,7 +368,8 @@ impl Node {
                 ..
             } => Intent::Gives(port),
             Mode::Writing {
-                to: Toward::Any, ..
+                to: Toward::Any,
+                ..
             } => Intent::GivesAny,
         }
     }
@@ -450,7 +451,8 @@ impl Node {
                 ..
             } => Intent::Gives(port),
             Mode::Writing {
-                to: Toward::Any, ..
+                to: Toward::Any,
+                ..
             } => Intent::GivesAny,
         }
     }

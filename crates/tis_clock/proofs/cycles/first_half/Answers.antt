@@ -1,6 +1,5 @@
 -- Each tile takes its turn.
-use Rattle.std.proofs.Common.{◌≡◌, ℕ, [], ◌<◌, ◌≤◌, length, sym, ap, subst, ◌∙◌, arith}
-use Rattle.tis_grid.specs.declared.event.Event.{Event}
+use Rattle.std.proofs.Common.{ℕ, [], ◌<◌, ◌≤◌, length, sym, subst, ◌∙◌, arith}
 use Rattle.tis_clock.specs.Cycle.{reads_or_steps}
 use Rattle.tis_clock.specs.Turns.{kept_at}
 use Rattle.tis_clock.proofs.Halves.{one_more, whole}
