@@ -14,7 +14,7 @@ use Rattle.net_select.specs.Selection.{Ports, Placed, on, jump_of, jumps_where_h
 use Rattle.net_select.specs.Laws.{LinesAreTold}
 
 -- one instruction on a variable, whatever it is
-one_on : (var : Var) (i : Instr) → length (on var (i ∷ [])) ≡ length (on var (instr.Nop ∷ []))
+pub one_on : (var : Var) (i : Instr) → length (on var (i ∷ [])) ≡ length (on var (instr.Nop ∷ []))
 one_on X i = refl
 one_on Y i = refl
 
@@ -60,7 +60,7 @@ frames : (var : Var) (test : Test) → cond (jumps_where_held test) (entering_fr
 frames X test = refl
 frames Y test = refl
 
-one_less_lines : (var : Var) (body : Placed) (lines : ℕ) → HasLines body lines → HasLines (with_one_less var body) (lines + length (on var (instr.Nop ∷ [])))
+pub one_less_lines : (var : Var) (body : Placed) (lines : ℕ) → HasLines body lines → HasLines (with_one_less var body) (lines + length (on var (instr.Nop ∷ [])))
 one_less_lines var body lines has at =
     omega (arith, length-append (body at) (on var (instr.Sub (from.Number (pos 1)) ∷ [])), has at, one_on var (instr.Sub (from.Number (pos 1))))
 
@@ -76,7 +76,7 @@ if_by false total var jump one other first second one_has other_has at = if_line
 
 module _ (ports : Ports) (total : ℕ) where
   mutual
-    statement_has : (statement : Statement ℕ) (at : ℕ) → length (statement_code ports total statement at) ≡ statement_lines statement
+    pub statement_has : (statement : Statement ℕ) (at : ℕ) → length (statement_code ports total statement at) ≡ statement_lines statement
     statement_has (Get read var) at = one_on var _
     statement_has (GetAdd read var) at = one_on var _
     statement_has (GetSub read var) at = one_on var _
@@ -96,7 +96,7 @@ module _ (ports : Ports) (total : ℕ) where
         while_by (jumps_where_held test) total var (jump_of test) (block_lines body) (block_code ports total body) (block_has body) at ∙ ap (λ n. n + block_lines body) (frames var test)
     statement_has (Count var body) at = count_lines total var (block_lines body) (block_code ports total body) (block_has body) at
 
-    block_has : (block : Block ℕ) (at : ℕ) → length (block_code ports total block at) ≡ block_lines block
+    pub block_has : (block : Block ℕ) (at : ℕ) → length (block_code ports total block at) ≡ block_lines block
     block_has Empty at = refl
     block_has (Then line statement rest) at =
         omega (arith, length-append (statement_code ports total statement at) (block_code ports total rest (at + statement_lines statement)), statement_has statement at, block_has rest (at + statement_lines statement))

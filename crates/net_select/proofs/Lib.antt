@@ -1,2 +1,10 @@
 pub mod Lengths
+pub mod Runs
+pub mod Follows
+pub mod Statements
+pub mod Branches
+pub mod Loops
+pub mod Trees
+pub mod Agreement
+pub mod Behaving
 mod Examples

@@ -17,4 +17,4 @@
 
 mod laws;
 
-pub use laws::lines_are_told;
+pub use laws::{code_behaves, lines_are_told};

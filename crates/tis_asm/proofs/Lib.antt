@@ -13,3 +13,5 @@ pub mod Sources
 pub mod Steps
 pub mod Wholes
 pub mod Examples
+pub mod ReadLabels
+pub mod ReadCode

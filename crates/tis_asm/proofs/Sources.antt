@@ -4,8 +4,9 @@ use Rattle.std.specs.Prelude.{min, nat_lt, Result, Ok, Err, OnErr}
 use Rattle.std.proofs.lemmas.Bool.{cases_Bool}
 use Rattle.std.proofs.lemmas.List.{take-append-le}
 use Rattle.std.proofs.lemmas.Bool.Decides.{nat_tests}
-use Rattle.tis_asm.specs.LineView.{Source, source_of, sources_read}
-use Rattle.tis_asm.specs.Assembling.{TooManyLines, is_blank, onto_code, without_blank_end, program_where, assembled_lines}
+use Rattle.tis_asm.specs.LineView.{Source, source_of}
+use Rattle.tis_asm.specs.ReadCode.{nothing_read, code_read, program_where_read}
+use Rattle.tis_asm.specs.Assembling.{TooManyLines, is_blank, onto_code, without_blank_end, assembled_lines}
 use Rattle.tis_asm.specs.Gathering.{Gathered, none_gathered, gathered_with, program_behind}
 use Rattle.tis_asm.proofs.Wholes.{first_program, first_are_all}
 
@@ -43,8 +44,8 @@ counted_all lines = counted_is 0 0 lines ∙ by_front (without_blank_end lines)
 -- nothing behind fifteen lines is looked at
 fifteen_only : (c : ℕ) (front rest other : List Source) → length front ≡ 15 → first_program c (front ++ rest) ≡ first_program c (front ++ other)
 fifteen_only c front rest other full = elim (cases_Bool (nat_lt 15 c)) [
-  | inl many ↦ ap (λ (b : Bool). cond b (Err TooManyLines) (program_where (sources_read 1 (Ok []) (take c (front ++ rest))))) many ∙ sym (ap (λ (b : Bool). cond b (Err TooManyLines) (program_where (sources_read 1 (Ok []) (take c (front ++ other))))) many)
-  | inr few ↦ ap (λ (l : List Source). cond (nat_lt 15 c) (Err TooManyLines) (program_where (sources_read 1 (Ok []) l))) (take-append-le c front rest (within c (length front) few full) ∙ sym (take-append-le c front other (within c (length front) few full)))
+  | inl many ↦ ap (λ (b : Bool). cond b (Err TooManyLines) (program_where_read (code_read 1 (Ok nothing_read) (take c (front ++ rest))))) many ∙ sym (ap (λ (b : Bool). cond b (Err TooManyLines) (program_where_read (code_read 1 (Ok nothing_read) (take c (front ++ other))))) many)
+  | inr few ↦ ap (λ (l : List Source). cond (nat_lt 15 c) (Err TooManyLines) (program_where_read (code_read 1 (Ok nothing_read) l))) (take-append-le c front rest (within c (length front) few full) ∙ sym (take-append-le c front other (within c (length front) few full)))
 ]
   where
     within : (c n : ℕ) → nat_lt 15 c ≡ false → n ≡ 15 → c ≤ n

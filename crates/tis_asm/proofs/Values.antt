@@ -1,10 +1,14 @@
 -- The numbers of a program, and its jumps.
-use Rattle.std.proofs.Common.{◌≡◌, ℕ, zero, suc, ◌+◌, ◌<◌, ◌≤◌, List, [], ◌∷◌, ◌++◌, length, take, Bool, true, false, subst, sym, ap, ◌∙◌, refl, Some, arith}
-use Rattle.std.specs.Prelude.{slice_get, IsTrue, ◌↔◌}
+use Rattle.std.proofs.Common.{◌≡◌, ℕ, zero, suc, ◌+◌, ◌<◌, ◌≤◌, List, [], ◌∷◌, ◌++◌, length, take, drop, Bool, true, false, subst, sym, ap, ◌∙◌, refl, Some, arith}
+use Rattle.std.specs.Prelude.{slice_get, slice_set, IsTrue, ◌↔◌}
 use Rattle.std.specs.Bool.{OnTrue}
+use Rattle.std.specs.List.{refill}
+use Rattle.std.proofs.Math.Seq.{take-append_seam}
 use Rattle.std.proofs.lemmas.Bool.{true≢false}
 use Rattle.std.proofs.lemmas.List.{length-take, take_more}
 use Rattle.std.proofs.lemmas.Option.{slice_get_within, get_or_from_slice_get}
+use Rattle.tis_asm.specs.declared.instr.Jump.{Jump as JumpKind}
+use Rattle.tis_asm.specs.declared.instr.Instr.TheVariants.{Jump}
 use Rattle.tis_asm.specs.declared.program.MarkedInstr.{MarkedInstr}
 use Rattle.tis_asm.specs.Programs.{InstrHasValue, HasValues, JumpsWithin, JumpWithin, IsSound}
 
@@ -49,3 +53,13 @@ one_more program index marked found =
 pub copied_more : (pushed : Bool) (program old new : List MarkedInstr) (index : ℕ) (marked : MarkedInstr) → slice_get program index ≡ Some marked → length program ≤ 15 → old ≡ take index program → (IsTrue pushed ↔ (length old < 15)) → OnTrue pushed (new ≡ old ++ record { instr = marked.instr; mark = marked.mark } ∷ []) → new ≡ take (index + 1) program
 copied_more true program old new index marked found short is full pushed = pushed ∙ ap (λ (l : List MarkedInstr). l ++ marked ∷ []) is ∙ one_more program index marked found
 copied_more false program old new index marked found short is full pushed = absurd (true≢false (sym (full.1 (subst (λ (l : List MarkedInstr). length l < 15) (sym is) (short_front program index marked found short)))))
+
+-- with a jump in place of one instruction they are values still
+pub values_with_jump : (program : List MarkedInstr) (place : ℕ) (jump : JumpKind) (number : ℕ) (mark : Bool) → HasValues program → HasValues (slice_set program place (record { instr = Jump jump number; mark = mark }))
+values_with_jump [] place jump number mark held = tt
+values_with_jump (first ∷ rest) zero jump number mark held = (tt, held.1)
+values_with_jump (first ∷ rest) (suc place) jump number mark held = (held.0, values_with_jump rest place jump number mark held.1)
+
+-- a list that is filled up from another to its own length is that list
+pub refill_same : {X : Type 0} (xs ws : List X) → length ws ≡ length xs → refill (length xs) xs ws ≡ ws
+refill_same xs ws same = ap (λ (n : ℕ). take n (ws ++ drop (length ws) xs)) (sym same) ∙ take-append_seam ws (drop (length ws) xs)

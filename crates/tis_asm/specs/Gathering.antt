@@ -2,8 +2,9 @@
 use Rattle.std.specs.Prelude.{ℕ, ◌+◌, List, [], ◌∷◌, ◌++◌, map, take, min, nat_lt, Result, Ok, Err, if◌then◌else◌}
 use Rattle.tis_asm.specs.declared.assembler.Assembler.{Assembler}
 use Rattle.tis_asm.specs.declared.program.MarkedInstr.{MarkedInstr}
-use Rattle.tis_asm.specs.Assembling.{AsmRefusal, TooManyLines, is_blank, program_where}
-use Rattle.tis_asm.specs.LineView.{Source, source_of, source_view, sources_read}
+use Rattle.tis_asm.specs.Assembling.{AsmRefusal, TooManyLines, is_blank}
+use Rattle.tis_asm.specs.LineView.{Source, source_of, source_view}
+use Rattle.tis_asm.specs.ReadCode.{nothing_read, code_read, program_where_read}
 
 -- how many lines there are up to the last one that isn't blank, and how many in all, neither counted past 16, with the first fifteen
 pub record Gathered : Type 0 where
@@ -26,7 +27,7 @@ gathered_with g line =
 
 -- what these lines spell
 abbrev pub gathered_program : Gathered → Result (List MarkedInstr) AsmRefusal
-gathered_program g = if nat_lt 15 g.count then Err TooManyLines else program_where (sources_read 1 (Ok []) (take g.count g.sources))
+gathered_program g = if nat_lt 15 g.count then Err TooManyLines else program_where_read (code_read 1 (Ok nothing_read) (take g.count g.sources))
 
 -- what they and those behind them spell
 abbrev pub program_behind : Gathered → List (List ℕ) → Result (List MarkedInstr) AsmRefusal

@@ -11,3 +11,5 @@ pub mod Soundness
 pub mod Held
 pub mod LineView
 pub mod Gathering
+pub mod ReadCode
+pub mod ReadingView

@@ -6,9 +6,9 @@ ghost use Rattle.tis_asm.specs.LineView.{source_of, source_view};
 ghost use Rattle.tis_asm.specs.Held.{Answers};
 ghost use Rattle.tis_asm.specs.Programs.{IsSound};
 
-use crate::assembling::{check_lines, program_of};
 use crate::error::AsmError;
 use crate::program::{MOST, Program};
+use crate::reading::read_lines;
 use crate::source_line::{SourceLine, source_line};
 use crate::words::is_blank_line;
 use std::alloc::Global;
@@ -60,15 +60,15 @@ impl Assembler {
     }
 
     /// The program that the lines spell.
-    pub fn finish(&self) -> Result<Program, AsmError>
+    pub fn finish(&self, alloc: Global) -> Result<Program, AsmError>
         ensures answer { Answers (λ p. p) result (assembled_with self.now []) }
     {
         if MOST < self.count {
             return Err(AsmError::TooManyLines);
         }
         let sources = &self.sources[..self.count.min(self.sources.len())];
-        check_lines(sources)?;
-        program_of(sources)
+        let reading = read_lines(alloc, sources)?;
+        reading.finish()
     }
 }
 
@@ -81,5 +81,5 @@ pub fn assemble(alloc: Global, text: &[u8]) -> Result<Program, AsmError>
     for line in lines(text) {
         assembler.push(alloc, line)?;
     }
-    assembler.finish()
+    assembler.finish(alloc)
 }

@@ -25,8 +25,9 @@
 //! # What the calls cost
 //!
 //! `assemble` looks at each line of a text once, and takes a copy in capitals of the first fifteen; of those
-//! behind them it is only told whether they are blank. Labels are looked for among at most fifteen lines of at most 80 bytes, which are
-//! read again each time. `print` takes time that grows with the program. Calls of `Program` take no memory.
+//! behind them it is only told whether they are blank. Each of the first fifteen is read once, and its label goes into a
+//! table, in which the jumps look it up once all lines are read. `print` takes time that grows with the program. Calls of `Program`
+//! take no memory.
 //!
 //! # What it doesn't do
 //!
@@ -34,13 +35,13 @@
 #![tactic(auto)]
 
 mod assembler;
-mod assembling;
 mod error;
 mod instr;
 mod laws;
 mod line;
 mod program;
 mod programs;
+mod reading;
 mod source_line;
 mod text;
 mod word;

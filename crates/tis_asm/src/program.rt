@@ -1,10 +1,11 @@
 //! The program of one node.
-ghost use Rattle.std.specs.Prelude.{◌≡◌, ◌<◌, ◌↔◌, [], ◌∷◌, ◌++◌, length, slice_get, option_map, Some, IsTrue, ◌≤◌};
+ghost use Rattle.std.specs.Prelude.{◌≡◌, ◌<◌, ◌↔◌, [], ◌∷◌, ◌++◌, length, slice_get, slice_set, option_map, Some, IsTrue, ◌≤◌};
 ghost use Rattle.std.specs.Bool.{OnTrue, OnFalse};
 ghost use Rattle.tis_asm.specs.Programs.{HasValues, IsSound};
 ghost use Rattle.tis_asm.specs.Code.{is_target};
+ghost use Rattle.tis_asm.specs.declared.instr.Instr.TheVariants as asm;
 
-use crate::instr::Instr;
+use crate::instr::{Instr, Jump};
 use arrayvec::ArrayVec;
 use std::marker::Model;
 
@@ -134,5 +135,18 @@ impl Program {
         instr.held();
         self.instrs.push(MarkedInstr { instr, mark });
         true
+    }
+
+    // A jump in place of an instruction, where that is there.
+    pub(crate) fn set_jump(&mut self, place: u8, mark: bool, jump: Jump, number: u8)
+        ensures { self.new ≡ slice_set self.old place (record { instr = asm.Jump jump number; mark = mark }) }
+    {
+        if self.instrs.len() <= place as usize {
+            return;
+        }
+        self.instrs[place as usize] = MarkedInstr {
+            instr: Instr::Jump(jump, number),
+            mark,
+        };
     }
 }

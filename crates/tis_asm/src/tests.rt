@@ -124,16 +124,31 @@ fn a_text_is_read_as_its_program(rt: HostRuntime) -> Result<(), Fail> {
 #[test]
 fn a_text_is_refused_by_its_first_fault(rt: HostRuntime) -> Result<(), Fail> {
     let sixteen = b"\n\n\n\n\n\n\n\n\n\n\n\n\n\n\nNOP";
+    // A comment of 81 bytes.
+    let long = b"# a comment of eighty-one bytes is one byte too long for a line of code to be rea";
+    let long_at_end =
+        b"\n\n\n\n\n\n\n\n\n\n\n\n\n\n# a comment of eighty-one bytes is one byte too long for a line of code to be rea";
     for (text, want) in [
         (sixteen.as_slice(), AsmError::TooManyLines),
+        (long.as_slice(), AsmError::LongLine { line: 1 }),
+        (long_at_end.as_slice(), AsmError::LongLine { line: 15 }),
         (b"MOV 5 6".as_slice(), AsmError::BadLine { line: 1 }),
+        (
+            b"\n\n\n\n\n\n\n\n\n\n\n\n\n\nMOV 5 6".as_slice(),
+            AsmError::BadLine { line: 15 },
+        ),
         (
             b"A:\nA: NOP\n".as_slice(),
             AsmError::RepeatedLabel { line: 2 },
         ),
         (
-            b"\nNOP\nJMP B\n".as_slice(),
-            AsmError::UnknownLabel { line: 3 },
+            b"A:\n\n\n\n\n\n\n\n\n\n\n\n\n\na:".as_slice(),
+            AsmError::RepeatedLabel { line: 15 },
+        ),
+        (b"JMP B".as_slice(), AsmError::UnknownLabel { line: 1 }),
+        (
+            b"A: JMP A\n\n\n\n\n\n\n\n\n\n\n\n\n\nJEZ B".as_slice(),
+            AsmError::UnknownLabel { line: 15 },
         ),
     ] {
         assert!(rt; matches!(assemble(rt.alloc(), text), Err(error) if error == want));

@@ -6,8 +6,8 @@ use Rattle.tis_cli.specs.declared.status.Status.{Status}
 use Rattle.tis_cli.specs.declared.status.Status.TheVariants.{Done, NotPassed, Words, Refused, Missing, StoreFault, SinkFault, NoMemory, Limit}
 use Rattle.tis_cli.specs.declared.runs.Run.{Run}
 use Rattle.tis_cli.specs.Answers.{Answer, Refuses, Makes}
-use Rattle.tis_cli.specs.Commands.{Command, Run as ByClock, Order, Replay, Grade, fetched, ComesTo}
-use Rattle.tis_cli.specs.Runs.{run_answer, order_answer, replay_answer, grade_answer}
+use Rattle.tis_cli.specs.Commands.{Command, Run as ByClock, Order, Replay, Grade, fetched, ComesTo, Debug}
+use Rattle.tis_cli.specs.Runs.{run_answer, order_answer, replay_answer, grade_answer, debug_answer}
 use Rattle.tis_cli.specs.Ends.{Ends}
 use Rattle.tis_cli.specs.Outcomes.{texts_under, with_first, AreFetched, Runs}
 use Rattle.tis_cli.proofs.Explained.{told_is}
@@ -61,4 +61,11 @@ replay_runs told second third save spec events saved read listed saved_seen read
     comes_to_run (Replay save spec seed events) told (saved ∷ read ∷ listed ∷ []) (replay_answer saved_seen read_seen listed_seen) result
     (λ texts is. one_more texts save saved (spec ∷ events ∷ []) (read ∷ listed ∷ []) (told_under told told save saved refl first texts is) (one_more texts spec read (events ∷ []) (listed ∷ []) (told_under told second spec read stay next texts is) (one_more texts events listed [] [] (told_under told third events listed (again ∙ stay) last texts is) refl)))
     (λ other same. same ∙ ap (λ (b : List ℕ). replay_answer b read_seen listed_seen) saved_is ∙ ap (λ (b : List ℕ). replay_answer saved b listed_seen) read_is ∙ ap (λ (b : List ℕ). replay_answer saved read b) listed_is)
+    ends
+
+pub debug_runs : (told second third : Option Texts) (save spec script saved read listed : List ℕ) (saved_seen read_seen listed_seen : List ℕ) (seed : ℕ) (result : Result Run Status) → second ≡ told → third ≡ second → IfSome told (λ texts. text_at texts save ≡ Some saved) → IfSome second (λ texts. text_at texts spec ≡ Some read) → IfSome third (λ texts. text_at texts script ≡ Some listed) → saved_seen ≡ saved → read_seen ≡ read → listed_seen ≡ listed → Ends result (debug_answer saved_seen read_seen listed_seen) → Runs (Debug save spec seed script) told result
+debug_runs told second third save spec script saved read listed saved_seen read_seen listed_seen seed result stay again first next last saved_is read_is listed_is ends =
+    comes_to_run (Debug save spec seed script) told (saved ∷ read ∷ listed ∷ []) (debug_answer saved_seen read_seen listed_seen) result
+    (λ texts is. one_more texts save saved (spec ∷ script ∷ []) (read ∷ listed ∷ []) (told_under told told save saved refl first texts is) (one_more texts spec read (script ∷ []) (listed ∷ []) (told_under told second spec read stay next texts is) (one_more texts script listed [] [] (told_under told third script listed (again ∙ stay) last texts is) refl)))
+    (λ other same. same ∙ ap (λ (b : List ℕ). debug_answer b read_seen listed_seen) saved_is ∙ ap (λ (b : List ℕ). debug_answer saved b listed_seen) read_is ∙ ap (λ (b : List ℕ). debug_answer saved read b) listed_is)
     ends

@@ -6,7 +6,7 @@ use Rattle.tis_cli.specs.declared.command.Command.TheVariants as held_as
 use Rattle.tis_cli.specs.declared.status.Refusal.TheVariants.{NotThisForm}
 use Rattle.tis_cli.specs.Answers.{Answer, Refuses, Makes, AllDone, Destination, Kept, Put}
 use Rattle.tis_words.specs.Numerals.{number_of}
-use Rattle.tis_cli.specs.Runs.{run_answer, order_answer, replay_answer, grade_answer}
+use Rattle.tis_cli.specs.Runs.{run_answer, order_answer, replay_answer, grade_answer, debug_answer}
 use Rattle.net_column.specs.Net.{Net}
 use Rattle.net_column.specs.Column.{NetOf}
 use Rattle.net_column.specs.Compiled.{compiled}
@@ -26,6 +26,8 @@ pub data Command : Type 0 where
   Replay : (save : List ℕ) → (spec : List ℕ) → (seed : ℕ) → (events : List ℕ) → Command
   -- grades a save over a specification for each of some seeds, up to so many cycles
   Grade : (save : List ℕ) → (spec : List ℕ) → (limit : ℕ) → (seeds : List ℕ) → Command
+  -- debugs a save over a specification by the commands of a script
+  Debug : (save : List ℕ) → (spec : List ℕ) → (seed : ℕ) → (script : List ℕ) → Command
 
 -- a word that is a seed: a number below 2^64
 abbrev pub seed_of : List ℕ → Option ℕ
@@ -62,11 +64,17 @@ grade_with save spec limit seeds = option_and_then (λ l. option_map (λ all. Gr
 abbrev pub grade_of : List (List ℕ) → Option Command
 grade_of (word ∷ save ∷ spec ∷ limit ∷ seeds) = if bytes_eq word (codes "grade") then grade_with save spec (limit_of limit) (seeds_of seeds) else None
 grade_of _ = None
+abbrev pub debug_with : List ℕ → List ℕ → Option ℕ → List ℕ → Option Command
+debug_with save spec seed script = option_map (λ s. Debug save spec s script) seed
 
 -- the command that these words are
 abbrev pub command_of : List (List ℕ) → Option Command
 command_of (word ∷ net ∷ save ∷ []) = if bytes_eq word (codes "compile") then Some (Compile net save) else None
-command_of (word ∷ save ∷ spec ∷ seed ∷ last ∷ []) = if bytes_eq word (codes "run") then run_with save spec (seed_of seed) (limit_of last) else (if bytes_eq word (codes "replay") then replay_with save spec (seed_of seed) last else grade_of (word ∷ save ∷ spec ∷ seed ∷ last ∷ []))
+command_of (word ∷ save ∷ spec ∷ seed ∷ last ∷ []) =
+    if bytes_eq word (codes "run") then run_with save spec (seed_of seed) (limit_of last)
+    else (if bytes_eq word (codes "replay") then replay_with save spec (seed_of seed) last
+    else (if bytes_eq word (codes "debug") then debug_with save spec (seed_of seed) last
+    else grade_of (word ∷ save ∷ spec ∷ seed ∷ last ∷ [])))
 command_of (word ∷ save ∷ spec ∷ seed ∷ order_seed ∷ limit ∷ []) = if bytes_eq word (codes "order") then order_with save spec (seed_of seed) (seed_of order_seed) (limit_of limit) else grade_of (word ∷ save ∷ spec ∷ seed ∷ order_seed ∷ limit ∷ [])
 command_of words = grade_of words
 
@@ -81,6 +89,7 @@ command_view (held_as.Run save spec seed cycles) = Run save.now spec.now seed cy
 command_view (held_as.Order save spec seed order_seed limit) = Order save.now spec.now seed order_seed limit
 command_view (held_as.Replay save spec seed events) = Replay save.now spec.now seed events.now
 command_view (held_as.Grade save spec limit seeds) = Grade save.now spec.now limit (kept_seeds seeds)
+command_view (held_as.Debug save spec seed script) = Debug save.now spec.now seed script.now
 
 -- ---- compile
 
@@ -102,7 +111,7 @@ pub record IsCompiled (texts : List (List ℕ)) (bytes : List ℕ) : Type 0 wher
   pub reads_back : save_of bytes net.tiles ≡ Ok (compiled net)
   pub carries : Carries (compiled net) net
 
--- ---- run, order, replay and grade
+-- ---- run, order, replay, debug and grade
 
 -- two texts are fetched
 abbrev pub RunsTo : ℕ → List (List ℕ) → Answer → Type 0
@@ -133,6 +142,14 @@ GradesTo limit seeds [] answer = ⊥
 GradesTo limit seeds (text ∷ []) answer = ⊥
 GradesTo limit seeds (save ∷ spec ∷ other ∷ texts) answer = ⊥
 
+-- three texts are fetched
+abbrev pub DebugsTo : List (List ℕ) → Answer → Type 0
+DebugsTo (save ∷ spec ∷ script ∷ []) answer = answer ≡ debug_answer save spec script
+DebugsTo [] answer = ⊥
+DebugsTo (text ∷ []) answer = ⊥
+DebugsTo (save ∷ spec ∷ []) answer = ⊥
+DebugsTo (save ∷ spec ∷ script ∷ other ∷ texts) answer = ⊥
+
 -- ---- every command
 
 -- the names under which it fetches texts, in order
@@ -142,6 +159,7 @@ fetched (Run save spec seed cycles) = save ∷ spec ∷ []
 fetched (Order save spec seed order_seed limit) = save ∷ spec ∷ []
 fetched (Replay save spec seed events) = save ∷ spec ∷ events ∷ []
 fetched (Grade save spec limit seeds) = save ∷ spec ∷ []
+fetched (Debug save spec seed script) = save ∷ spec ∷ script ∷ []
 
 -- where what it makes goes
 abbrev pub destination_of : Command → Destination
@@ -150,6 +168,7 @@ destination_of (Run save spec seed cycles) = Put
 destination_of (Order save spec seed order_seed limit) = Put
 destination_of (Replay save spec seed events) = Put
 destination_of (Grade save spec limit seeds) = Put
+destination_of (Debug save spec seed script) = Put
 
 -- what it comes to over the texts that it fetched, where nothing fails: the first refusal that the texts and then the work meet, or how the work ends and what it makes
 abbrev pub ComesTo : Command → List (List ℕ) → Answer → Type 0
@@ -158,6 +177,7 @@ ComesTo (Run save spec seed cycles) texts answer = RunsTo cycles texts answer
 ComesTo (Order save spec seed order_seed limit) texts answer = OrdersTo order_seed limit texts answer
 ComesTo (Replay save spec seed events) texts answer = ReplaysTo texts answer
 ComesTo (Grade save spec limit seeds) texts answer = GradesTo limit seeds texts answer
+ComesTo (Debug save spec seed script) texts answer = DebugsTo texts answer
 
 -- what is promised of the bytes that it made, where all is done; of a report nothing more than what it comes to
 abbrev pub IsPromised : Command → List (List ℕ) → List ℕ → Type 0
@@ -166,6 +186,7 @@ IsPromised (Run save spec seed cycles) texts bytes = Unit {0}
 IsPromised (Order save spec seed order_seed limit) texts bytes = Unit {0}
 IsPromised (Replay save spec seed events) texts bytes = Unit {0}
 IsPromised (Grade save spec limit seeds) texts bytes = Unit {0}
+IsPromised (Debug save spec seed script) texts bytes = Unit {0}
 
 -- ---- laws
 

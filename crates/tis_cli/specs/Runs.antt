@@ -1,4 +1,4 @@
--- What `run`, `order`, `replay` and `grade` come to over the texts that they fetch: the first refusal, or the report of what the grid did.
+-- What `run`, `order`, `replay`, `debug` and `grade` come to over the texts that they fetch: the first refusal, or the report of what the grid did.
 use Rattle.std.specs.Prelude.{ℕ, zero, suc, ◌+◌, List, [], ◌∷◌, ◌++◌, length, Option, Some, None, unwrap_or, Result, Ok, Err}
 use Rattle.tis_asm.specs.declared.error.AsmError.{AsmError}
 use Rattle.tis_asm.specs.declared.error.AsmError.TheVariants as code
@@ -24,7 +24,9 @@ use Rattle.tis_grade.specs.declared.cases.Case.{Case}
 use Rattle.tis_grade.specs.declared.cases.Failed.{Failed}
 use Rattle.tis_grade.specs.Reports.{graded}
 use Rattle.tis_report.specs.Reports.{ended_text, replayed_text, not_enabled_text}
-use Rattle.tis_cli.specs.declared.status.Refusal.TheVariants.{Save, Grid as Grid_text, Events}
+use Rattle.tis_debug.specs.declared.script.Action.{Action}
+use Rattle.tis_debug.specs.Scripts.{script_of, debug_text}
+use Rattle.tis_cli.specs.declared.status.Refusal.TheVariants.{Save, Grid as Grid_text, Events, Script}
 use Rattle.tis_cli.specs.Answers.{Completion, Answer, Refuses, Makes, AllDone, Limited, Stopped, Failed as Fails}
 
 -- ---- refusals, as they are held
@@ -67,6 +69,11 @@ over_puzzle (Ok puzzle) next = next puzzle
 abbrev pub over_events : Result (List Event) ℕ → (List Event → Answer) → Answer
 over_events (Err line) next = Refuses (Events line)
 over_events (Ok events) next = next events
+
+-- what follows over the commands of a script, or its first line that is none
+abbrev pub over_script : Result (List Action) ℕ → (List Action → Answer) → Answer
+over_script (Err line) next = Refuses (Script line)
+over_script (Ok actions) next = next actions
 
 -- what follows over the grid of a save and a specification; the save is read over the tiles of the specification, which is looked at first
 abbrev pub over_grid : List ℕ → List ℕ → (Grid → Answer) → Answer
@@ -136,6 +143,12 @@ grade_completion (Some failed) = Fails failed.seed failed.verdict
 abbrev pub grades : ℕ → List Case → Answer
 grades limit cases = Makes (grade_completion (graded limit cases).failed) (graded limit cases).report
 
+-- ---- a session of the debugger
+
+-- what a script prints over a grid from its start; the whole script is looked at before anything is done
+abbrev pub debugged : Result (List Action) ℕ → Grid → Answer
+debugged script grid = over_script script (λ actions. Makes AllDone (debug_text grid actions))
+
 -- ---- the commands
 
 unfoldable pub run_answer : List ℕ → List ℕ → ℕ → Answer
@@ -150,3 +163,6 @@ replay_answer saved spec events = over_grid saved spec (replayed (events_of even
 -- the save and the specification are read for each seed before the first is graded
 unfoldable pub grade_answer : List ℕ → List ℕ → ℕ → List ℕ → Answer
 grade_answer saved spec limit seeds = over_cases saved spec [] seeds (grades limit)
+
+unfoldable pub debug_answer : List ℕ → List ℕ → List ℕ → Answer
+debug_answer saved spec script = over_grid saved spec (debugged (script_of script))

@@ -10,6 +10,8 @@ use Rattle.tis_grid_text.specs.declared.error.GridTextError.{GridTextError}
 use Rattle.tis_grid_text.specs.declared.error.GridTextError.TheVariants as grid
 use Rattle.tis_grid_text.specs.declared.error.EventsError.{EventsError}
 use Rattle.tis_grid_text.specs.declared.error.EventsError.TheVariants as events
+use Rattle.tis_debug.specs.declared.error.ScriptError.{ScriptError}
+use Rattle.tis_debug.specs.declared.error.ScriptError.TheVariants as script
 use Rattle.tis_base.specs.declared.store.StoreError.{StoreError}
 use Rattle.tis_base.specs.declared.store.StoreError.TheVariants as fault
 use Rattle.net_column.specs.declared.tree.NetError.{NetError}
@@ -17,7 +19,7 @@ use Rattle.net_column.specs.declared.tree.NetError.TheVariants as unread
 use Rattle.tis_cli.specs.declared.status.Status.{Status}
 use Rattle.tis_cli.specs.declared.status.Status.TheVariants.{Done, NotPassed, Words, Refused, Missing, StoreFault, SinkFault, NoMemory, Limit}
 use Rattle.tis_cli.specs.declared.status.Refusal.{Refusal}
-use Rattle.tis_cli.specs.declared.status.Refusal.TheVariants.{NotThisForm, Save, Grid, Events, NotEnabled}
+use Rattle.tis_cli.specs.declared.status.Refusal.TheVariants.{NotThisForm, Save, Grid, Events, NotEnabled, Script}
 
 -- the number that the program ends with
 abbrev pub number_of : Status → ℕ
@@ -63,6 +65,7 @@ refusal_words (Save error) = codes "Save " ++ save_words error
 refusal_words (Grid error) = codes "Grid " ++ grid_words error
 refusal_words (Events line) = with_number (codes "Events ") line
 refusal_words (NotEnabled index) = with_number (codes "NotEnabled ") index
+refusal_words (Script line) = with_number (codes "Script ") line
 
 -- the line that says how the program ended, without its LF
 abbrev pub status_line : Status → List ℕ
@@ -96,7 +99,7 @@ save_status (saved.StrayCode line) = Refused (Save (saved.StrayCode line))
 save_status (saved.Asm block error) = Refused (Save (saved.Asm block error))
 save_status saved.NoMemory = NoMemory
 
--- and one of a grid text, or of the text of an order
+-- and one of a grid text, or of the text of an order or of a script
 abbrev pub grid_status : GridTextError → Status
 grid_status (grid.BadLine line) = Refused (Grid (grid.BadLine line))
 grid_status (grid.SamePlace line) = Refused (Grid (grid.SamePlace line))
@@ -105,6 +108,10 @@ grid_status grid.NoMemory = NoMemory
 abbrev pub events_status : EventsError → Status
 events_status (events.Bad line) = Refused (Events line)
 events_status events.NoMemory = NoMemory
+
+abbrev pub script_status : ScriptError → Status
+script_status (script.Bad line) = Refused (Script line)
+script_status script.NoMemory = NoMemory
 
 -- and a fault of the sink
 abbrev pub sink_status : SinkError → Status

@@ -1,6 +1,6 @@
 //! The words of the command line.
 ghost use Rattle.std.specs.Prelude.{◌≡◌, map, option_map, string_bytes};
-ghost use Rattle.tis_cli.specs.Commands.{command_of, command_view, seed_of as seed_in, limit_of as limit_in, seeds_of as seeds_in, kept_seeds, run_with, order_with, replay_with, grade_with};
+ghost use Rattle.tis_cli.specs.Commands.{command_of, command_view, seed_of as seed_in, limit_of as limit_in, seeds_of as seeds_in, kept_seeds, run_with, order_with, replay_with, grade_with, debug_with};
 ghost use Rattle.tis_cli.specs.Outcomes.{words_of};
 
 use tis_words::number_of;
@@ -44,6 +44,13 @@ pub enum Command<'a> {
         spec: &'a str,
         limit: u64,
         seeds: [Option<u64>; SEEDS],
+    },
+    /// Debugs a save over a specification by the commands of a script.
+    Debug {
+        save: &'a str,
+        spec: &'a str,
+        seed: u64,
+        script: &'a str,
     },
 }
 
@@ -145,6 +152,23 @@ fn grade<'a>(
     })
 }
 
+// The command `debug` with these words.
+fn debug<'a>(
+    save: &'a String,
+    spec: &'a String,
+    seed: &String,
+    script: &'a String,
+) -> Option<Command<'a>>
+    ensures { debug_with (string_bytes save.now) (string_bytes spec.now) (seed_in (string_bytes seed.now)) (string_bytes script.now) ≡ option_map command_view result }
+{
+    Some(Command::Debug {
+        save: save.as_str(),
+        spec: spec.as_str(),
+        seed: seed_of(seed)?,
+        script: script.as_str(),
+    })
+}
+
 /// The command that these words are, or None where they are none.
 pub fn read_words<'a>(words: &'a [String]) -> Option<Command<'a>>
     ensures { command_of (words_of words.now) ≡ option_map command_view result }
@@ -159,6 +183,9 @@ pub fn read_words<'a>(words: &'a [String]) -> Option<Command<'a>>
         }
         [word, save, spec, seed, events] if word.as_str() == "replay" => {
             replay(save, spec, seed, events)
+        }
+        [word, save, spec, seed, script] if word.as_str() == "debug" => {
+            debug(save, spec, seed, script)
         }
         [word, save, spec, seed, order_seed, limit] if word.as_str() == "order" => {
             order(save, spec, seed, order_seed, limit)

@@ -100,6 +100,7 @@ fn push_refusal(line: &mut Vec<u8>, refusal: Refusal) -> Result<(), NoMemory>
         }
         Refusal::Events { line: at } => push_with_number(line, b"Events ", at as u64),
         Refusal::NotEnabled { index } => push_with_number(line, b"NotEnabled ", index as u64),
+        Refusal::Script { line: at } => push_with_number(line, b"Script ", at as u64),
     }
 }
 

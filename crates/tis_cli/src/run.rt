@@ -2,12 +2,12 @@
 ghost use Rattle.std.specs.Prelude.{◌≡◌, ◌≢◌, ◌↔◌, ◌⊎◌, ℕ, List, Option, Some, None, OnOk, OnErr, IfErr, IsErrOf};
 ghost use Rattle.tis_base.specs.Outside.{Texts, Rose};
 ghost use Rattle.tis_cli.specs.Answers.{Answer, Put, answer_status};
-ghost use Rattle.tis_cli.specs.Commands.{Command as SomeCommand, Compile, Run as ByClock, Order, Replay, Grade, command_of, command_view, kept_seeds, fetched, destination_of, ComesTo};
+ghost use Rattle.tis_cli.specs.Commands.{Command as SomeCommand, Compile, Run as ByClock, Order, Replay, Grade, Debug, command_of, command_view, kept_seeds, fetched, destination_of, ComesTo};
 ghost use Rattle.tis_cli.specs.Outcomes.{words_of, IsCalled, PutsReport, PutsBytes, texts_under, IsOfAnswer, IsOfWork, IsAnswered, IsCutShort, IsUnlessFailure, status_after, Explains, Runs, IsPut, AreEnds, Finishes};
 
 use crate::command::{Command, SEEDS, read_words};
 use crate::grades::grade;
-use crate::runs::{Run, clock, order, replay};
+use crate::runs::{Run, clock, debug, order, replay};
 use crate::status::Status;
 use net_column::{emit, read_net};
 use std::alloc::Global;
@@ -124,6 +124,27 @@ fn work_of_grade<S: Store>(
     grade(alloc, &saved, &spec, limit, seeds)
 }
 
+// What the script under one name comes to over the texts under the others.
+fn work_of_debug<S: Store>(
+    alloc: Global,
+    save: &str,
+    spec: &str,
+    script: &str,
+    store: &mut S,
+) -> Result<Run, Status>
+    ensures runs { (seed : ℕ) → Runs (Debug save.now spec.now seed script.now) (S.texts store.old) result }
+    ensures texts_stay { S.texts store.new ≡ S.texts store.old }
+    ensures missing_counted { IsErrOf result Status.Missing → Rose (S.misses store.old) (S.misses store.new) }
+    ensures fault_counted { IsErrOf result Status.StoreFault → Rose (S.faults store.old) (S.faults store.new) }
+    ensures misses_stay { result ≢ Err Status.Missing → S.misses store.new ≡ S.misses store.old }
+    ensures faults_stay { result ≢ Err Status.StoreFault → S.faults store.new ≡ S.faults store.old }
+{
+    let saved = store.fetch(alloc, save)?;
+    let spec = store.fetch(alloc, spec)?;
+    let script = store.fetch(alloc, script)?;
+    debug(alloc, &saved, &spec, &script)
+}
+
 // Puts a report, and says how the command ended.
 fn put_report<K: Sink>(run: &Run, out: &mut K) -> Status
     requires { IsOfWork run.now.status }
@@ -198,6 +219,12 @@ fn perform<S: Store, K: Sink>(alloc: Global, command: Command, store: &mut S, ou
             limit,
             seeds,
         } => finish(work_of_grade(alloc, save, spec, limit, &seeds, store), out),
+        Command::Debug {
+            save,
+            spec,
+            script,
+            ..
+        } => finish(work_of_debug(alloc, save, spec, script, store), out),
     }
 }
 
@@ -208,7 +235,8 @@ fn perform<S: Store, K: Sink>(alloc: Global, command: Command, store: &mut S, ou
 /// by cycle, and puts a report; `order SAVE SPEC SEED ORDERSEED LIMIT` runs it in an order that is drawn with
 /// ORDERSEED; `replay SAVE SPEC SEED EVENTS`
 /// runs it by the events of a text; `grade SAVE SPEC LIMIT SEED [SEED ..]` says whether it passes for each of one to eight
-/// seeds. Other words are no command. The words are looked at
+/// seeds; `debug SAVE SPEC SEED SCRIPT` does what the lines of a script say, each a command of the debugger. Other words
+/// are no command. The words are looked at
 /// first, then the names, then the texts in the order in which a command reads them, then its work;
 /// what it makes is kept, or put as a report, at the end.
 pub fn tool<S: Store, K: Sink>(

@@ -1,14 +1,16 @@
-//! A save over a specification, cycle by cycle, or in an order that is drawn or handed in.
+//! A save over a specification, cycle by cycle, in an order that is drawn or handed in, or in the debugger.
 ghost use Rattle.std.specs.Prelude.{◌≡◌, ◌≤◌};
 ghost use Rattle.tis_grid.specs.State.{Grid as SomeGrid};
 ghost use Rattle.tis_grid_text.specs.EventsText.{events_of};
+ghost use Rattle.tis_debug.specs.Scripts.{script_of};
 ghost use Rattle.tis_cli.specs.Answers.{Answer};
-ghost use Rattle.tis_cli.specs.Runs.{over_grid, clocked, ordered, replayed, run_answer, order_answer, replay_answer};
+ghost use Rattle.tis_cli.specs.Runs.{over_grid, clocked, ordered, replayed, debugged, run_answer, order_answer, replay_answer, debug_answer};
 ghost use Rattle.tis_cli.specs.Ends.{Ends, Opens, ended_status};
 
 use crate::status::{Refusal, Status};
 use std::alloc::Global;
 use tis_clock::run_making_room;
+use tis_debug::{debug_report, read_script};
 use tis_grid::{Ended, Grid, OrderError};
 use tis_grid_text::{read_events, read_grid};
 use tis_report::{ended_report, not_enabled_report, replayed_report};
@@ -113,4 +115,24 @@ pub(crate) fn replay(alloc: Global, save: &[u8], spec: &[u8], events: &[u8]) -> 
 {
     let grid = open_grid(alloc, save, spec)?;
     run_events(alloc, &grid, events)
+}
+
+// Does what a script says over a grid from its start.
+fn run_script(alloc: Global, grid: &Grid, text: &[u8]) -> Result<Run, Status>
+    ensures { Ends result (debugged (script_of text.now) grid.now) }
+{
+    let actions = read_script(alloc, text)?;
+    let report = debug_report(alloc, grid, &actions)?;
+    Ok(Run {
+        status: Status::Done,
+        report,
+    })
+}
+
+/// What a session of the debugger comes to.
+pub(crate) fn debug(alloc: Global, save: &[u8], spec: &[u8], script: &[u8]) -> Result<Run, Status>
+    ensures { Ends result (debug_answer save.now spec.now script.now) }
+{
+    let grid = open_grid(alloc, save, spec)?;
+    run_script(alloc, &grid, script)
 }

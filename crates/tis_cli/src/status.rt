@@ -4,6 +4,7 @@ ghost use Rattle.tis_cli.specs.Statuses.{number_of};
 
 use net_column::NetError;
 use tis_base::{NoMemory, SinkError, StoreError};
+use tis_debug::ScriptError;
 use tis_grid_text::{EventsError, GridTextError};
 use tis_grade::Verdict;
 use tis_save::SaveError;
@@ -21,6 +22,8 @@ pub enum Refusal {
     Events { line: usize },
     /// The event with this number, from 0 on, can't happen in its turn.
     NotEnabled { index: usize },
+    /// The line is no command of the debugger.
+    Script { line: usize },
 }
 
 /// How a call of `tool` ended.
@@ -143,6 +146,20 @@ impl From<EventsError> for Status {
         match error {
             EventsError::Bad { line } => Status::Refused(Refusal::Events { line }),
             EventsError::NoMemory => Status::NoMemory,
+        }
+    }
+}
+
+impl From<ScriptError> for Status {
+    ghost use Rattle.std.specs.Prelude.{◌≡◌};
+    ghost use Rattle.tis_cli.specs.Statuses.{script_status};
+
+    ghost from_gives = { λ error status. status ≡ script_status error };
+
+    fn from(error: ScriptError) -> Self {
+        match error {
+            ScriptError::Bad { line } => Status::Refused(Refusal::Script { line }),
+            ScriptError::NoMemory => Status::NoMemory,
         }
     }
 }

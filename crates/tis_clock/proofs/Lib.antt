@@ -5,6 +5,7 @@ mod Examples
 mod Kept
 mod Ways
 mod Below
+mod Intended
 pub mod Halves
 pub mod Room
 pub mod Same

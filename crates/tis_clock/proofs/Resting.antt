@@ -42,7 +42,7 @@ in_directions Right = inr (inl refl)
 in_directions Up = inr (inr (inl refl))
 in_directions Down = inr (inr (inr (inl refl)))
 
-twice : (dir : Dir) → opposite (opposite dir) ≡ dir
+pub twice : (dir : Dir) → opposite (opposite dir) ≡ dir
 twice Left = refl
 twice Right = refl
 twice Up = refl

@@ -1,20 +1,28 @@
 //! What a tile does at its turn in a cycle.
-ghost use Rattle.std.specs.Prelude.{◌≡◌, ◌<◌, ◌∷◌, [], length, flat_map};
+ghost use Rattle.std.specs.Prelude.{◌≡◌, ◌<◌, ◌∷◌, [], length, flat_map, IfSome, IsTrue, Some, None, false, ◌&&◌};
+ghost use Rattle.tis_base.specs.declared.tiles.Dir.{Dir as AnyDir};
 ghost use Rattle.tis_base.specs.declared.tiles.Dir.TheVariants.{Down};
 ghost use Rattle.std.specs.List.{find};
 ghost use Rattle.tis_base.specs.Tiles.{opposite as other_side};
 ghost use Rattle.tis_node.specs.NodeView.{node_view};
 ghost use Rattle.tis_grid.specs.Orders.{Fits};
-ghost use Rattle.tis_grid.specs.Events.{is_enabled, next_tile};
+ghost use Rattle.tis_node.specs.Intents.{takes_from};
+ghost use Rattle.tis_grid.specs.declared.event.Event.TheVariants as event;
+ghost use Rattle.tis_grid.specs.Events.{IsEnabled, is_enabled, is_giving, is_waiting, next_tile};
+ghost use Rattle.tis_grid.specs.HeldState.{HasRoom};
+ghost use Rattle.tis_clock.specs.Cycle.{state_after};
 ghost use Rattle.tis_clock.specs.Cycle as cycle;
-ghost use Rattle.tis_clock.specs.Turns.{kept_at, Keeps};
+ghost use Rattle.tis_clock.specs.Turns.{kept_at, acts, room_behind, Keeps};
 
 use tis_base::{Dir, Tile};
 use tis_grid::{Event, Grid, State};
-use tis_node::{Mode, Node};
+use tis_node::{Intent, Mode, Node};
 
-/// How many tiles the largest grid has.
-pub(crate) const TILES: usize = 48;
+/// How many tiles a grid has.
+pub(crate) const TILES: usize = 12;
+
+// The number of the first tile of the bottom row.
+const BOTTOM: u8 = 8;
 
 // Whether a node writes.
 fn is_writing(node: &Node) -> bool
@@ -51,31 +59,66 @@ pub(crate) fn writers(grid: &Grid, state: &State) -> [bool; TILES]
     writing
 }
 
-// Whether the tile that gives in this event was writing when the cycle began.
-fn gives_old(writing: &[bool; TILES], event: Event) -> bool
-    ensures { result ≡ cycle.gives_old (kept_at writing.now) event }
+// Whether a tile was writing when the cycle began.
+#[inline(always)]
+fn was_writing(writing: &[bool; TILES], tile: Tile) -> bool
+    ensures { result ≡ kept_at writing.now tile.number }
 {
-    match event {
-        Event::Meet(giver, _) => match writing.get(giver.number as usize) {
-            Some(writes) => *writes,
-            None => false,
-        },
-        Event::Local(_) | Event::In(_) | Event::Out(_) | Event::Push(..) | Event::Pop(..) => true,
+    match writing.get(tile.number as usize) {
+        Some(writes) => *writes,
+        None => false,
     }
 }
 
-// An event, where it can happen and takes no value that was first written in this cycle.
-fn if_enabled(grid: &Grid, writing: &[bool; TILES], state: &State, event: Event) -> Option<Event>
-    requires { Fits grid.now state.now.state }
-    ensures { result ≡ cycle.first_way grid.now (kept_at writing.now) state.now.state (event ∷ []) }
+// Whether a tile gives a value to a port that it was writing already when the cycle began.
+#[inline(always)]
+fn gives_old(
+    grid: &Grid,
+    writing: &[bool; TILES],
+    state: &State,
+    giver: Tile,
+    dir: Dir,
+) -> bool
+    requires fits { Fits grid.now state.now.state }
+    ensures { result ≡ (kept_at writing.now giver.number && is_giving grid.now state.now.state giver.number dir) }
 {
-    let old = gives_old(writing, event);
-    let enabled = grid.enabled(state, event);
-    if old && enabled { Some(event) } else { None }
+    if !was_writing(writing, giver) {
+        return false;
+    }
+    grid.is_giving(state, giver, dir)
 }
 
-// The neighbour in a direction gives to this tile.
-fn from_neighbour(
+// What a tile that waits takes from the next one: what that one was giving when the cycle began, or the newest value
+// of a stack.
+#[inline(always)]
+fn take_from_next(
+    grid: &Grid,
+    writing: &[bool; TILES],
+    state: &State,
+    tile: Tile,
+    dir: Dir,
+    next: Tile,
+) -> Option<Event>
+    requires fits { Fits grid.now state.now.state }
+    requires there { tile.number < length grid.now.puzzle.tiles.kinds }
+    requires waits { IsTrue (is_waiting grid.now state.now.state tile.number dir) }
+    requires next { next_tile grid.now tile.number dir ≡ Some next.number }
+    ensures { result ≡ cycle.first_way grid.now (kept_at writing.now) state.now.state (cycle.ways_to_take grid.now tile.number dir) }
+{
+    // The call tells the proof that this is a grid.
+    grid.puzzle();
+    if gives_old(grid, writing, state, next, opposite(dir)) {
+        return Some(Event::Meet(next, opposite(dir)));
+    }
+    if grid.has_value(state, next) {
+        return Some(Event::Pop(tile, dir));
+    }
+    None
+}
+
+// What a tile that waits takes from beyond the grid: above the top row the next value of an input.
+#[inline(always)]
+fn take_from_beyond(
     grid: &Grid,
     writing: &[bool; TILES],
     state: &State,
@@ -84,32 +127,25 @@ fn from_neighbour(
 ) -> Option<Event>
     requires fits { Fits grid.now state.now.state }
     requires there { tile.number < length grid.now.puzzle.tiles.kinds }
-    ensures { result ≡ cycle.first_way grid.now (kept_at writing.now) state.now.state (cycle.from_neighbour (next_tile grid.now tile.number dir) dir) }
+    requires next { next_tile grid.now tile.number dir ≡ None }
+    ensures { result ≡ cycle.first_way grid.now (kept_at writing.now) state.now.state (cycle.ways_to_take grid.now tile.number dir) }
 {
-    match grid.puzzle().tiles.neighbour(tile, dir) {
-        Some(giver) => if_enabled(grid, writing, state, Event::Meet(giver, opposite(dir))),
-        None => None,
-    }
-}
-
-// What comes in above a tile.
-fn from_above(
-    grid: &Grid,
-    writing: &[bool; TILES],
-    state: &State,
-    tile: Tile,
-    dir: Dir,
-) -> Option<Event>
-    requires { Fits grid.now state.now.state }
-    ensures { result ≡ cycle.first_way grid.now (kept_at writing.now) state.now.state (cycle.from_above tile.number dir) }
-{
+    // The call tells the proof that this is a grid.
+    grid.puzzle();
     match dir {
-        Dir::Up => if_enabled(grid, writing, state, Event::In(tile.number)),
+        Dir::Up => {
+            if grid.enabled(state, Event::In(tile.number)) {
+                Some(Event::In(tile.number))
+            } else {
+                None
+            }
+        }
         Dir::Left | Dir::Right | Dir::Down => None,
     }
 }
 
-// What comes from a direction.
+// What a tile that waits takes from a direction.
+#[inline(always)]
 fn take_from(
     grid: &Grid,
     writing: &[bool; TILES],
@@ -119,18 +155,16 @@ fn take_from(
 ) -> Option<Event>
     requires fits { Fits grid.now state.now.state }
     requires there { tile.number < length grid.now.puzzle.tiles.kinds }
+    requires waits { IsTrue (is_waiting grid.now state.now.state tile.number dir) }
     ensures { result ≡ cycle.first_way grid.now (kept_at writing.now) state.now.state (cycle.ways_to_take grid.now tile.number dir) }
 {
-    match from_neighbour(grid, writing, state, tile, dir) {
-        Some(met) => Some(met),
-        None => match if_enabled(grid, writing, state, Event::Pop(tile, dir)) {
-            Some(popped) => Some(popped),
-            None => from_above(grid, writing, state, tile, dir),
-        },
+    match grid.next(tile, dir) {
+        Some(next) => take_from_next(grid, writing, state, tile, dir, next),
+        None => take_from_beyond(grid, writing, state, tile, dir),
     }
 }
 
-// What comes from the first of these directions from which anything comes.
+// What a tile that waits for any port takes, from the first of these directions from which anything comes.
 fn take_any(
     grid: &Grid,
     writing: &[bool; TILES],
@@ -140,6 +174,7 @@ fn take_any(
 ) -> Option<Event>
     requires fits { Fits grid.now state.now.state }
     requires there { tile.number < length grid.now.puzzle.tiles.kinds }
+    requires waits { (dir : AnyDir) → IsTrue (is_waiting grid.now state.now.state tile.number dir) }
     ensures { result ≡ cycle.first_way grid.now (kept_at writing.now) state.now.state (flat_map (cycle.ways_to_take grid.now tile.number) dirs.now) }
 {
     match dirs.split_first() {
@@ -151,62 +186,106 @@ fn take_any(
     }
 }
 
-// Whether a tile was writing when the cycle began.
-fn was_writing(writing: &[bool; TILES], tile: Tile) -> bool
-    ensures { result ≡ kept_at writing.now tile.number }
-{
-    match writing.get(tile.number as usize) {
-        Some(writes) => *writes,
-        None => false,
-    }
-}
-
-/// What a tile does that was ready when the cycle began.
-pub(crate) fn read_or_step(
+// What a tile takes that was ready when the cycle began, and whose instruction needs a port.
+#[inline(always)]
+fn take(
     grid: &Grid,
     writing: &[bool; TILES],
     state: &State,
     tile: Tile,
+    intent: Intent,
 ) -> Option<Event>
     requires fits { Fits grid.now state.now.state }
     requires there { tile.number < length grid.now.puzzle.tiles.kinds }
+    requires ready { kept_at writing.now tile.number ≡ false }
+    requires local { is_enabled grid.now state.now.state (event.Local tile) ≡ false }
+    requires takes { (dir : AnyDir) → is_waiting grid.now state.now.state tile.number dir ≡ takes_from intent dir }
     ensures { result ≡ cycle.reads_or_steps grid.now (kept_at writing.now) state.now.state tile.number }
+{
+    // The call tells the proof that this is a grid.
+    grid.puzzle();
+    match intent {
+        Intent::Takes(dir) => take_from(grid, writing, state, tile, dir),
+        Intent::TakesAny => {
+            let dirs = [Dir::Left, Dir::Right, Dir::Up, Dir::Down];
+            take_any(grid, writing, state, tile, &dirs)
+        }
+        Intent::Nothing => None,
+        Intent::Local => None,
+        Intent::Gives(_) => None,
+        Intent::GivesAny => None,
+    }
+}
+
+// Applies what a tile chose, where it chose anything.
+#[inline(always)]
+pub(crate) fn act(grid: &Grid, state: &mut State, chosen: Option<Event>)
+    requires fits { Fits grid.now state.old.state }
+    requires enabled { IfSome chosen (λ event. IsEnabled grid.now state.old.state event) }
+    requires room { IfSome chosen (λ event. HasRoom state.old.spares event) }
+    ensures state { state.new.state ≡ state_after grid.now state.old.state (acts chosen) }
+    ensures spares { state.new.spares ≡ room_behind state.old.spares chosen }
+    ensures fits { Fits grid.now state.new.state }
+{
+    if let Some(event) = chosen {
+        grid.apply(state, event);
+    }
+}
+
+/// What a tile does that was ready when the cycle began.
+#[inline(always)]
+pub(crate) fn read_or_step(
+    grid: &Grid,
+    writing: &[bool; TILES],
+    state: &mut State,
+    tile: Tile,
+) -> Option<Event>
+    requires fits { Fits grid.now state.old.state }
+    requires there { tile.number < length grid.now.puzzle.tiles.kinds }
+    ensures chosen { result ≡ cycle.reads_or_steps grid.now (kept_at writing.now) state.old.state tile.number }
+    ensures state { state.new.state ≡ state_after grid.now state.old.state (acts result) }
+    ensures spares { state.new.spares ≡ state.old.spares }
+    ensures fits { Fits grid.now state.new.state }
 {
     if was_writing(writing, tile) {
         return None;
     }
-    match if_enabled(grid, writing, state, Event::Local(tile)) {
-        Some(stepped) => Some(stepped),
-        None => take_any(
-            grid,
-            writing,
-            state,
-            tile,
-            &[Dir::Left, Dir::Right, Dir::Up, Dir::Down],
-        ),
+    // The call tells the proof that this is a grid.
+    grid.puzzle();
+    let intent = grid.advance(state, tile);
+    if intent.is_local() {
+        return Some(Event::Local(tile));
     }
+    let taken = take(grid, writing, state, tile, intent);
+    act(grid, state, taken);
+    taken
 }
 
 // The output whose column ends in this tile takes its value.
+#[inline(always)]
 fn give_below(grid: &Grid, state: &State, tile: Tile) -> Option<Event>
     requires fits { Fits grid.now state.now.state }
+    requires there { tile.number < length grid.now.puzzle.tiles.kinds }
     ensures { result ≡ find (is_enabled grid.now state.now.state) (cycle.to_below grid.now tile.number Down) }
 {
-    let shape = grid.puzzle().tiles.shape();
-    for position in 0..shape.columns {
-        let event = Event::Out(position);
-        if position + shape.columns * (shape.rows - 1) == tile.number
-            && grid.enabled(state, event)
-        {
-            return Some(event);
-        }
+    // The call tells the proof which shape the tiles have.
+    grid.puzzle().tiles.shape();
+    if tile.number < BOTTOM {
+        return None;
     }
-    None
+    let position = tile.number - BOTTOM;
+    if grid.enabled(state, Event::Out(position)) {
+        Some(Event::Out(position))
+    } else {
+        None
+    }
 }
 
 // What a tile gives in a direction without a reader.
+#[inline(always)]
 fn give_toward(grid: &Grid, state: &State, tile: Tile, dir: Dir) -> Option<Event>
     requires fits { Fits grid.now state.now.state }
+    requires there { tile.number < length grid.now.puzzle.tiles.kinds }
     ensures { result ≡ find (is_enabled grid.now state.now.state) (cycle.ways_to_give grid.now tile.number dir) }
 {
     let pushed = Event::Push(tile, dir);
@@ -222,6 +301,7 @@ fn give_toward(grid: &Grid, state: &State, tile: Tile, dir: Dir) -> Option<Event
 // What a tile gives in the first of these directions in which it gives anything.
 fn give_any(grid: &Grid, state: &State, tile: Tile, dirs: &[Dir]) -> Option<Event>
     requires fits { Fits grid.now state.now.state }
+    requires there { tile.number < length grid.now.puzzle.tiles.kinds }
     ensures { result ≡ find (is_enabled grid.now state.now.state) (flat_map (cycle.ways_to_give grid.now tile.number) dirs.now) }
 {
     match dirs.split_first() {
@@ -234,6 +314,7 @@ fn give_any(grid: &Grid, state: &State, tile: Tile, dirs: &[Dir]) -> Option<Even
 }
 
 /// What a tile gives that was writing when the cycle began.
+#[inline(always)]
 pub(crate) fn give_out(
     grid: &Grid,
     writing: &[bool; TILES],
@@ -241,15 +322,23 @@ pub(crate) fn give_out(
     tile: Tile,
 ) -> Option<Event>
     requires fits { Fits grid.now state.now.state }
+    requires there { tile.number < length grid.now.puzzle.tiles.kinds }
     ensures { result ≡ cycle.gives_out grid.now (kept_at writing.now) state.now.state tile.number }
 {
     if !was_writing(writing, tile) {
         return None;
     }
-    give_any(
-        grid,
-        state,
-        tile,
-        &[Dir::Left, Dir::Right, Dir::Up, Dir::Down],
-    )
+    // The call tells the proof that this is a grid.
+    grid.puzzle();
+    match grid.intent(state, tile) {
+        Intent::Gives(dir) => give_toward(grid, state, tile, dir),
+        Intent::GivesAny => {
+            let order = [Dir::Left, Dir::Right, Dir::Up, Dir::Down];
+            give_any(grid, state, tile, &order)
+        }
+        Intent::Nothing => None,
+        Intent::Local => None,
+        Intent::Takes(_) => None,
+        Intent::TakesAny => None,
+    }
 }

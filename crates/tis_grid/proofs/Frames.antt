@@ -16,8 +16,8 @@ use Rattle.tis_grid.specs.declared.choices.Choices.{Choices}
 use Rattle.tis_grid.specs.State.{Grid, IsGrid, State, node_at, stack_at}
 use Rattle.tis_grid.specs.Events.{program_of, next_tile, is_compute_at, is_memory_at, is_waiting, is_giving, has_room, has_value, is_enabled, after_event}
 use Rattle.tis_grid.specs.Choices.{events_at, those_enabled}
-use Rattle.tis_grid.specs.HeldChoices.{IsRight, AreRenewed, touched}
-use Rattle.tis_grid.proofs.Places.{next_left, next_right, next_up, next_down, next_back, some_columns}
+use Rattle.tis_grid.specs.HeldChoices.{IsRight, IsApart, AreRenewed, touched}
+use Rattle.tis_grid.proofs.Places.{next_left, next_right, next_up, next_down, next_back, next_differs, some_columns}
 use Rattle.tis_grid.proofs.Starting.{twelve_tiles}
 
 -- a tile is the same in both states
@@ -72,43 +72,63 @@ module _ (grid : Grid) (before after : State) where
   value_same : (tile : ℕ) → SameAt before after tile → has_value grid after tile ≡ has_value grid before tile
   value_same tile same = ap (λ (values : List ℤ). is_memory_at grid tile && nat_lt 0 (length values)) same.stack
 
-  module _ (tile : ℕ) (here : SameAt before after tile) (around : (dir : Dir) (next : ℕ) → next_tile grid tile dir ≡ Some next → SameAt before after next) where
+  -- what a tile can do towards a direction is the same
+  record SameTowards (tile : ℕ) (dir : Dir) : Type 0 where
+    meet : is_enabled grid after (Meet (record { number = tile }) dir) ≡ is_enabled grid before (Meet (record { number = tile }) dir)
+    push : is_enabled grid after (Push (record { number = tile }) dir) ≡ is_enabled grid before (Push (record { number = tile }) dir)
+    pop : is_enabled grid after (Pop (record { number = tile }) dir) ≡ is_enabled grid before (Pop (record { number = tile }) dir)
+
+  module _ (tile : ℕ) (here : SameAt before after tile) where
     local_same : is_enabled grid after (Local (record { number = tile })) ≡ is_enabled grid before (Local (record { number = tile }))
     local_same = ap (λ (node : Node). is_compute_at grid tile && can_local (program_of grid tile) node) here.node
 
-    meet_same : (dir : Dir) → is_enabled grid after (Meet (record { number = tile }) dir) ≡ is_enabled grid before (Meet (record { number = tile }) dir)
-    meet_same dir = both_same _ _ _ _ (giving_same tile dir here) (next_same (next_tile grid tile dir) (λ reader. is_waiting grid after reader (opposite dir)) (λ reader. is_waiting grid before reader (opposite dir)) (λ next is. waiting_same next (opposite dir) (around dir next is)))
+    -- the tile there is the same
+    same_beside : (dir : Dir) → ((next : ℕ) → next_tile grid tile dir ≡ Some next → SameAt before after next) → SameTowards tile dir
+    same_beside dir beside = record {
+      meet = both_same _ _ _ _ (giving_same tile dir here) (next_same (next_tile grid tile dir) (λ reader. is_waiting grid after reader (opposite dir)) (λ reader. is_waiting grid before reader (opposite dir)) (λ next is. waiting_same next (opposite dir) (beside next is)));
+      push = both_same _ _ _ _ (giving_same tile dir here) (next_same (next_tile grid tile dir) (has_room grid after) (has_room grid before) (λ next is. room_same next (beside next is)));
+      pop = both_same _ _ _ _ (waiting_same tile dir here) (next_same (next_tile grid tile dir) (has_value grid after) (has_value grid before) (λ next is. value_same next (beside next is)));
+    }
 
-    push_same : (dir : Dir) → is_enabled grid after (Push (record { number = tile }) dir) ≡ is_enabled grid before (Push (record { number = tile }) dir)
-    push_same dir = both_same _ _ _ _ (giving_same tile dir here) (next_same (next_tile grid tile dir) (has_room grid after) (has_room grid before) (λ next is. room_same next (around dir next is)))
+    -- the tile there has changed, but this one gives nothing there, and there is no stack
+    same_apart : (dir : Dir) (next : ℕ) → next_tile grid tile dir ≡ Some next → is_giving grid after tile dir ≡ false → is_memory_at grid next ≡ false → SameTowards tile dir
+    same_apart dir next is gives memory =
+        let gave : is_giving grid before tile dir ≡ false = sym (giving_same tile dir here) ∙ gives in
+        let no_value : (state : State) → unwrap_or (option_map (has_value grid state) (next_tile grid tile dir)) false ≡ false =
+        λ state. ap (λ (o : Option ℕ). unwrap_or (option_map (has_value grid state) o) false) is ∙ ap (λ (b : Bool). b && nat_lt 0 (length (stack_at state next))) memory in
+        record {
+          meet = neither _ _ _ _ gives gave;
+          push = neither _ _ _ _ gives gave;
+          pop = both_same _ _ _ _ (waiting_same tile dir here) (no_value after ∙ sym (no_value before));
+        }
+      where
+        neither : (a b c d : Bool) → a ≡ false → c ≡ false → (a && b) ≡ (c && d)
+        neither a b c d first second = ap (λ (x : Bool). x && b) first ∙ sym (ap (λ (x : Bool). x && d) second)
 
-    pop_same : (dir : Dir) → is_enabled grid after (Pop (record { number = tile }) dir) ≡ is_enabled grid before (Pop (record { number = tile }) dir)
-    pop_same dir = both_same _ _ _ _ (waiting_same tile dir here) (next_same (next_tile grid tile dir) (has_value grid after) (has_value grid before) (λ next is. value_same next (around dir next is)))
-
-    -- what a tile can do is the same where it and its neighbours are
-    pub events_same : those_enabled grid after (events_at tile) ≡ those_enabled grid before (events_at tile)
+    -- what a tile can do is the same where it is so towards each direction
+    events_same : ((dir : Dir) → SameTowards tile dir) → those_enabled grid after (events_at tile) ≡ those_enabled grid before (events_at tile)
     unfolding AgreeOn
-    events_same = those_same grid before after (events_at tile) (
+    events_same same = those_same grid before after (events_at tile) (
       local_same,
       (
-        meet_same Left,
+        (same Left).meet,
         (
-          push_same Left,
+          (same Left).push,
           (
-            pop_same Left,
+            (same Left).pop,
             (
-              meet_same Right,
+              (same Right).meet,
               (
-                push_same Right,
+                (same Right).push,
                 (
-                  pop_same Right,
+                  (same Right).pop,
                   (
-                    meet_same Up,
+                    (same Up).meet,
                     (
-                      push_same Up,
+                      (same Up).push,
                       (
-                        pop_same Up,
-                        (meet_same Down, (push_same Down, (pop_same Down, tt))),
+                        (same Up).pop,
+                        ((same Down).meet, ((same Down).push, ((same Down).pop, tt))),
                       ),
                     ),
                   ),
@@ -120,17 +140,6 @@ module _ (grid : Grid) (before after : State) where
       ),
     )
 
--- ---- near and far
-
--- a tile isn't another one, and no tile next to it is
-pub record IsFar (grid : Grid) (tile other : ℕ) : Type 0 where
-  pub here : tile ≢ other
-  pub around : (dir : Dir) (next : ℕ) → next_tile grid tile dir ≡ Some next → next ≢ other
-
--- it is that one, or next to it
-abbrev IsNear : Grid → ℕ → ℕ → Type 0
-IsNear grid tile other = (tile ≡ other) ⊎ ((dir : Dir) × (next_tile grid tile dir ≡ Some other))
-
 -- a tile that is next, or isn't
 next_or_not : (next : Option ℕ) (other : ℕ) → (next ≡ Some other) ⊎ ((tile : ℕ) → next ≡ Some tile → tile ≢ other)
 next_or_not None other = inr (λ tile is. absurd cc)
@@ -139,62 +148,96 @@ next_or_not (Some tile) other = elim (cases_eq tile other) [
   | inr apart ↦ inr (λ next is same. let e : tile ≡ next = cc in apart (e ∙ same))
 ]
 
-near_or_far : (grid : Grid) (tile other : ℕ) → IsNear grid tile other ⊎ IsFar grid tile other
-near_or_far grid tile other =
-    elim (cases_eq tile other) [
-      | inl same ↦ inl (inl same)
-      | inr apart ↦ elim (next_or_not (next_tile grid tile Left) other) [
-        | inl left ↦ inl (inr (Left, left))
-        | inr no_left ↦ elim (next_or_not (next_tile grid tile Right) other) [
-          | inl right ↦ inl (inr (Right, right))
-          | inr no_right ↦ elim (next_or_not (next_tile grid tile Up) other) [
-            | inl up ↦ inl (inr (Up, up))
-            | inr no_up ↦ elim (next_or_not (next_tile grid tile Down) other) [
-              | inl down ↦ inl (inr (Down, down))
-              | inr no_down ↦ inr (record { here = apart; around = far no_left no_right no_up no_down })
-            ]
-          ]
-        ]
-      ]
-    ]
-  where
-    far : ((next : ℕ) → next_tile grid tile Left ≡ Some next → next ≢ other) → ((next : ℕ) → next_tile grid tile Right ≡ Some next → next ≢ other) → ((next : ℕ) → next_tile grid tile Up ≡ Some next → next ≢ other) → ((next : ℕ) → next_tile grid tile Down ≡ Some next → next ≢ other) → (dir : Dir) (next : ℕ) → next_tile grid tile dir ≡ Some next → next ≢ other
-    far left right up down Left = left
-    far left right up down Right = right
-    far left right up down Up = up
-    far left right up down Down = down
+twice : (dir : Dir) → opposite (opposite dir) ≡ dir
+twice Left = refl
+twice Right = refl
+twice Up = refl
+twice Down = refl
 
 -- ---- lists that were made anew
 
--- near a tile the lists are right
-near_right : (grid : Grid) (state : State) (other tile : ℕ) (old new : Choices) → IsGrid grid → tile < 12 → AreRenewed grid state other old new → IsNear grid tile other → IsRight grid state new.tiles tile
-near_right grid state other tile old new is_grid within renewed (inl same) = subst (λ (t : ℕ). IsRight grid state new.tiles t) (sym same) renewed.here
-near_right grid state other tile old new is_grid within renewed (inr next) =
-    renewed.around (opposite next.0) tile (next_back grid.puzzle.tiles.shape tile next.0 other (some_columns grid.puzzle.tiles is_grid.puzzle.tiles) (omega (arith, is_grid.puzzle.tiles.filled, twelve_tiles grid is_grid)) next.1)
+-- behind an event all lists are right, once those that it concerns were made anew around what it touched
+module _ (grid : Grid) (before : State) (event : Event) (first second third : Choices) (is_grid : IsGrid grid) (were : (tile : ℕ) → tile < 12 → IsRight grid before first.tiles tile)
+    (once : AreRenewed grid (after_event grid before event) (touched grid event).0 first second) (again : AreRenewed grid (after_event grid before event) (touched grid event).1 second third) where
+  after : State
+  after = after_event grid before event
 
--- behind an event all lists are right, once those around what it touched were made anew
-pub all_right : (grid : Grid) (before : State) (event : Event) (first second third : Choices) → IsGrid grid → ((tile : ℕ) → tile < 12 → IsRight grid before first.tiles tile) →
-    AreRenewed grid (after_event grid before event) (touched grid event).0 first second → AreRenewed grid (after_event grid before event) (touched grid event).1 second third →
-    (tile : ℕ) → tile < 12 → IsRight grid (after_event grid before event) third.tiles tile
-all_right grid before event first second third is_grid were once twice tile within =
-    elim (near_or_far grid tile (touched grid event).1) [
-      | inl near ↦ near_right grid (after_event grid before event) (touched grid event).1 tile second third is_grid within twice near
-      | inr far ↦ elim (near_or_far grid tile (touched grid event).0) [
-        | inl near ↦ twice.others tile (near_right grid (after_event grid before event) (touched grid event).0 tile first second is_grid within once near)
-        | inr apart ↦
-            let same = events_same grid before (after_event grid before event) tile (untouched grid before event tile apart.here far.here) (λ dir next is. untouched grid before event next (apart.around dir next is) (far.around dir next is)) in
-            twice.others tile (once.others tile (were tile within ∙ sym same))
+  module _ (tile : ℕ) (within : tile < 12) (not_first : tile ≢ (touched grid event).0) (not_second : tile ≢ (touched grid event).1) where
+    same : SameAt before (after_event grid before event) tile
+    same = untouched grid before event tile not_first not_second
+
+    back : (dir : Dir) (next : ℕ) → next_tile grid tile dir ≡ Some next → next_tile grid next (opposite dir) ≡ Some tile
+    back dir next is = next_back grid.puzzle.tiles.shape tile dir next (some_columns grid.puzzle.tiles is_grid.puzzle.tiles) (omega (arith, is_grid.puzzle.tiles.filled, twelve_tiles grid is_grid)) is
+
+    stays : (dir : Dir) (next : ℕ) → next_tile grid tile dir ≡ Some next → IsApart grid (after_event grid before event) next tile (opposite dir) → SameTowards grid before (after_event grid before event) tile dir
+    stays dir next is apart = same_apart grid before (after_event grid before event) tile same dir next is (ap (λ (d : Dir). is_giving grid (after_event grid before event) tile d) (sym (twice dir)) ∙ apart.0) apart.1
+
+    -- the tile's list was made anew, or what it can do in a direction is as it was
+    towards : (dir : Dir) → IsRight grid (after_event grid before event) third.tiles tile ⊎ SameTowards grid before (after_event grid before event) tile dir
+    towards dir =
+        elim (next_or_not (next_tile grid tile dir) (touched grid event).1) [
+          | inl is ↦ elim (again.around (opposite dir) tile (back dir (touched grid event).1 is)) [
+            | inl right ↦ inl right
+            | inr apart ↦ inr (stays dir (touched grid event).1 is apart)
+          ]
+          | inr other ↦ elim (next_or_not (next_tile grid tile dir) (touched grid event).0) [
+            | inl is ↦ elim (once.around (opposite dir) tile (back dir (touched grid event).0 is)) [
+              | inl right ↦ inl (again.others tile right)
+              | inr apart ↦ inr (stays dir (touched grid event).0 is apart)
+            ]
+            | inr another ↦ inr (same_beside grid before (after_event grid before event) tile same dir (λ next is. untouched grid before event next (another next is) (other next is)))
+          ]
+        ]
+
+    far_right : IsRight grid (after_event grid before event) third.tiles tile
+    far_right =
+        elim (towards Left) [
+          | inl right ↦ right
+          | inr left ↦ elim (towards Right) [
+            | inl right ↦ right
+            | inr right ↦ elim (towards Up) [
+              | inl there ↦ there
+              | inr up ↦ elim (towards Down) [
+                | inl there ↦ there
+                | inr down ↦ again.others tile (once.others tile (were tile within ∙ sym (events_same grid before (after_event grid before event) tile same (each left right up down))))
+              ]
+            ]
+          ]
+        ]
+      where
+        each : SameTowards grid before (after_event grid before event) tile Left → SameTowards grid before (after_event grid before event) tile Right → SameTowards grid before (after_event grid before event) tile Up → SameTowards grid before (after_event grid before event) tile Down → (dir : Dir) → SameTowards grid before (after_event grid before event) tile dir
+        each left right up down Left = left
+        each left right up down Right = right
+        each left right up down Up = up
+        each left right up down Down = down
+
+  all_right : (tile : ℕ) → tile < 12 → IsRight grid (after_event grid before event) third.tiles tile
+  all_right tile within =
+      elim (cases_eq tile (touched grid event).1) [
+        | inl is ↦ subst (λ (t : ℕ). IsRight grid (after_event grid before event) third.tiles t) (sym is) again.here
+        | inr not_second ↦ elim (cases_eq tile (touched grid event).0) [
+          | inl is ↦ again.others tile (subst (λ (t : ℕ). IsRight grid (after_event grid before event) second.tiles t) (sym is) once.here)
+          | inr not_first ↦ far_right tile within not_first not_second
+        ]
       ]
-    ]
 
--- the same, for a state and tiles that are these
+-- what was made anew around a tile is so around it once more
+renewed_again : (grid : Grid) (state : State) (tile : ℕ) (first second third : Choices) → third ≡ second → AreRenewed grid state tile first second → AreRenewed grid state tile second third
+renewed_again grid state tile first second third same renewed =
+    subst (λ (c : Choices). AreRenewed grid state tile second c) (sym same) (record { len = renewed.len; here = renewed.here; around = renewed.around; others = λ other right. right })
+
+-- the same, for a state and tiles that are these, of which the second one may be the first
 pub all_right_at : (grid : Grid) (before after : State) (event : Event) (x y : ℕ) (first second third : Choices) → IsGrid grid → after ≡ after_event grid before event → x ≡ (touched grid event).0 → y ≡ (touched grid event).1 →
-    ((tile : ℕ) → tile < 12 → IsRight grid before first.tiles tile) → AreRenewed grid after x first second → AreRenewed grid after y second third →
+    ((tile : ℕ) → tile < 12 → IsRight grid before first.tiles tile) → AreRenewed grid after x first second → (x ≢ y → AreRenewed grid after y second third) → (x ≡ y → third ≡ second) →
     (tile : ℕ) → tile < 12 → IsRight grid after third.tiles tile
-all_right_at grid before after event x y first second third is_grid state x-is y-is were once twice tile within =
+all_right_at grid before after event x y first second third is_grid state x-is y-is were once other same tile within =
+    let again : AreRenewed grid after y second third = elim (cases_eq x y) [
+      | inl is ↦ subst (λ (t : ℕ). AreRenewed grid after t second third) is (renewed_again grid after x first second third (same is) once)
+      | inr apart ↦ other apart
+    ] in
     let once_then = subst (λ (s : State). AreRenewed grid s (touched grid event).0 first second) state (subst (λ (t : ℕ). AreRenewed grid after t first second) x-is once) in
-    let twice_then = subst (λ (s : State). AreRenewed grid s (touched grid event).1 second third) state (subst (λ (t : ℕ). AreRenewed grid after t second third) y-is twice) in
-    subst (λ (s : State). IsRight grid s third.tiles tile) (sym state) (all_right grid before event first second third is_grid were once_then twice_then tile within)
+    let again_then = subst (λ (s : State). AreRenewed grid s (touched grid event).1 second third) state (subst (λ (t : ℕ). AreRenewed grid after t second third) y-is again) in
+    subst (λ (s : State). IsRight grid s third.tiles tile) (sym state) (all_right grid before event first second third is_grid were once_then again_then tile within)
 
 -- a tile that is next to one of the grid is on it too
 within_twelve : (shape : Shape) (tile next : ℕ) (dir : Dir) → shape.columns ≡ 4 → shape.rows ≡ 3 → tile < 12 → neighbour_of shape tile dir ≡ Some next → next < 12
@@ -216,3 +259,11 @@ next_there grid tile dir (Some next) is_grid within is =
     let few : tile < 12 = omega arith in
     let below = within_twelve grid.puzzle.tiles.shape tile next.number dir is_grid.puzzle.tiles.allowed.0 is_grid.puzzle.tiles.allowed.1 few (sym is) in
     omega (arith, below, twelve)
+
+pub next_apart : (grid : Grid) (tile : ℕ) (dir : Dir) (next : Option Tile) → IsGrid grid → option_map (λ t. t.number) next ≡ next_tile grid tile dir → IfSome next (λ t. tile ≢ t.number)
+next_apart grid tile dir None is_grid is = tt
+next_apart grid tile dir (Some next) is_grid is = next_differs grid.puzzle.tiles.shape tile dir next.number (some_columns grid.puzzle.tiles is_grid.puzzle.tiles) (sym is)
+
+-- the tile that is next, as the code has it
+pub is_the_next : (found : Option Tile) (tile : Tile) (next : ℕ) (there : Option ℕ) → option_map (λ t. t.number) found ≡ there → found ≡ Some tile → there ≡ Some next → tile.number ≡ next
+is_the_next found tile next there next-is found-is there-is = let same : ◌≡◌ {A = Option ℕ} (Some tile.number) (Some next) = sym (ap (option_map (λ (t : Tile). t.number)) found-is) ∙ next-is ∙ there-is in cc

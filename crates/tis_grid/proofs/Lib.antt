@@ -21,3 +21,5 @@ pub mod OrderRuns
 pub mod Choosing
 pub mod Drawing
 pub mod Frames
+mod Intended
+pub mod Returning

@@ -1,6 +1,8 @@
 -- The start of a grid of twelve tiles in four columns.
 use Rattle.std.proofs.Common.{◌≡◌, ℕ, ℤ, List, [], ◌∷◌, length, map, replicate, Option, sym, ap, ◌∙◌, ◌*◌, arith}
 use Rattle.std.specs.List.{range_with_len}
+use Rattle.tis_base.specs.Tiles.{IsAllowed}
+use Rattle.tis_base.specs.declared.tiles.Shape.{Shape}
 use Rattle.tis_asm.specs.Node.{Node, fresh}
 use Rattle.tis_grid.specs.Puzzle.{Puzzle}
 use Rattle.tis_grid.specs.State.{Grid, IsGrid, State, whole_input, empty_output, start}
@@ -31,3 +33,12 @@ twelve_tiles grid is =
     let columns = is.puzzle.tiles.allowed.0 in
     let whole = ap (λ n. n * grid.puzzle.tiles.shape.rows) columns in
     omega (arith, is.puzzle.tiles.filled, is.puzzle.tiles.allowed.1)
+
+-- the one shape that tiles have
+abbrev the_shape : Shape
+the_shape = record { columns = 4; rows = 3 }
+
+pub four_by_three : (shape : Shape) → IsAllowed shape → the_shape ≡ shape
+four_by_three shape allowed =
+    let columns : the_shape ≡ record { columns = shape.columns; rows = 3 } = ap (λ (n : ℕ). record { columns = n; rows = 3 }) (sym allowed.0) in
+    columns ∙ ap (λ (n : ℕ). record { columns = shape.columns; rows = n }) (sym allowed.1)

@@ -1,10 +1,11 @@
 -- What can happen next, as the program holds it.
-use Rattle.std.specs.Prelude.{◌≡◌, ℕ, ◌<◌, List, [], ◌∷◌, ◌++◌, length, flat_map, get_or, Some}
+use Rattle.std.specs.Prelude.{◌≡◌, ◌⊎◌, ℕ, ◌<◌, false, List, [], ◌∷◌, ◌++◌, length, flat_map, get_or, Option, Some, None}
+use Rattle.tis_base.specs.Tiles.{opposite}
 use Rattle.tis_grid.specs.declared.event.Event.{Event}
 use Rattle.tis_base.specs.declared.tiles.Dir.{Dir}
 use Rattle.arrayvec.specs.ArrayVec.{ArrayVec}
 use Rattle.tis_grid.specs.declared.event.Event.TheVariants.{Local, Meet, In, Out, Push, Pop}
-use Rattle.tis_grid.specs.Events.{reached, bottom_of, next_tile}
+use Rattle.tis_grid.specs.Events.{reached, bottom_of, next_tile, is_giving, is_memory_at}
 use Rattle.tis_grid.specs.declared.choices.Choices.{Choices}
 use Rattle.tis_grid.specs.State.{Grid, State}
 use Rattle.tis_grid.specs.Choices.{events_at, those_enabled}
@@ -12,6 +13,11 @@ use Rattle.tis_grid.specs.Choices.{events_at, those_enabled}
 -- all of them, one tile after the other and then the ports
 abbrev pub listed : Choices → List Event
 listed choices = flat_map (λ events. events.items) choices.tiles ++ choices.ports.items
+
+-- an event, where there is one, as a list
+abbrev pub event_of : Option Event → List Event
+event_of None = []
+event_of (Some event) = event ∷ []
 
 -- the events of the inputs and then of the outputs of four columns
 abbrev pub port_list : List Event
@@ -45,9 +51,13 @@ IsPlaced grid (Out position) = position < grid.puzzle.tiles.shape.columns
 IsPlaced grid (Push tile dir) = tile.number < length grid.puzzle.tiles.kinds
 IsPlaced grid (Pop tile dir) = tile.number < length grid.puzzle.tiles.kinds
 
--- the lists of a tile and of those next to it were made anew, and no list that was right is wrong now
+-- what a tile can do towards the one that it is next to is as it was, whatever happened to that one's node: it gives nothing there, and there is no stack
+abbrev pub IsApart : Grid → State → ℕ → ℕ → Dir → Type 0
+IsApart grid state tile next dir = (is_giving grid state next (opposite dir) ≡ false) × (is_memory_at grid tile ≡ false)
+
+-- the list of a tile was made anew, and so were those of the tiles next to it that can do something with it; no list that was right is wrong now
 pub record AreRenewed (grid : Grid) (state : State) (tile : ℕ) (old new : Choices) : Type 0 where
   pub len : length new.tiles ≡ 12
   pub here : IsRight grid state new.tiles tile
-  pub around : (dir : Dir) (next : ℕ) → next_tile grid tile dir ≡ Some next → IsRight grid state new.tiles next
+  pub around : (dir : Dir) (next : ℕ) → next_tile grid tile dir ≡ Some next → IsRight grid state new.tiles next ⊎ IsApart grid state tile next dir
   pub others : (other : ℕ) → IsRight grid state old.tiles other → IsRight grid state new.tiles other

@@ -12,6 +12,7 @@ use Rattle.tis_grid.specs.Events.{program_of, next_tile, bottom_of, IsEnabled}
 use Rattle.tis_grid.specs.Orders.{Fits, after, IsLegal, IsAtRest}
 use Rattle.tis_grid.specs.Choices.{enabled_events}
 use Rattle.tis_grid.specs.Drawn.{drawn}
+use Rattle.tis_grid.specs.Points.{point_of, returned, CanReturn}
 use Rattle.tis_grid.specs.TileSteps.{steps_of, values_left}
 
 -- the start is a state of its grid
@@ -76,3 +77,12 @@ DrawnOrdersAreLegal = (grid : Grid) (state : State) (seed most : ℕ) → IsGrid
 -- with a higher limit the same order goes on
 abbrev pub DrawnOrdersGrow : Type 0
 DrawnOrdersGrow = (grid : Grid) (state : State) (seed few most : ℕ) → few ≤ most → IsPrefixOf (drawn grid state seed few) (drawn grid state seed most)
+
+-- a state of a grid that is brought back to the point of another one is a state of the grid
+abbrev pub ReturnsFit : Type 0
+ReturnsFit = (grid : Grid) (state earlier : State) → Fits grid state → Fits grid earlier → Fits grid (returned state (point_of earlier))
+
+-- what an order led to can be brought back to the point of the state before it, and is then that state
+abbrev pub PointsBringBack : Type 0
+PointsBringBack = (grid : Grid) (state : State) (events : List Event) (end : State) → IsOrder grid state events end →
+    CanReturn end (point_of state) × (returned end (point_of state) ≡ state)

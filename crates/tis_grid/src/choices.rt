@@ -1,22 +1,26 @@
 //! What can happen next on a grid, in its order.
-ghost use Rattle.std.specs.Prelude.{◌≡◌, ◌<◌, ◌≤◌, ◌+◌, ◌++◌, [], ◌∷◌, ℕ, length, slice_get, Some, IsSome, IsTrue, ◌↔◌, ◌^◌};
+ghost use Rattle.std.specs.Prelude.{◌≡◌, ◌<◌, ◌≤◌, ◌+◌, ◌++◌, [], ◌∷◌, ℕ, length, slice_get, Some, IsSome, IsTrue, ◌↔◌, ◌^◌, true, false};
+ghost use Rattle.tis_base.specs.declared.tiles.Dir.{Dir as AnyDir};
+ghost use Rattle.tis_grid.specs.declared.event.Event.TheVariants as events;
+ghost use Rattle.tis_grid.specs.Events.{is_enabled, is_waiting, is_giving};
 ghost use Rattle.arrayvec.specs.ArrayVec.{array_vec_len};
 ghost use Rattle.tis_grid.specs.Choices.{events_towards, events_at, those_enabled, enabled_events};
-ghost use Rattle.tis_grid.specs.HeldChoices.{listed, port_list, AreChoices, AreRenewed, IsRight, touched};
+ghost use Rattle.tis_grid.specs.HeldChoices.{listed, port_list, event_of, AreChoices, AreRenewed, IsRight, touched};
 ghost use Rattle.rand_pcg.specs.Pcg.{pcg32};
 ghost use Rattle.tis_grid.specs.Drawn.{choice_of, next_of};
 ghost use Rattle.tis_grid.specs.Orders.{Fits, IsAtRest};
 
 use crate::event::Event;
-use crate::grid::Grid;
+use crate::grid::{Grid, opposite};
 use crate::state::{COLUMNS, State, TILES};
 use arrayvec::ArrayVec;
 use rand_core::utils::NextWord;
 use rand_pcg::Lcg64Xsh32;
 use tis_base::{Dir, Tile};
+use tis_node::Intent;
 
-// How many events a tile has, of which some can happen.
-pub(crate) const WAYS: usize = 13;
+// How many events of a tile can happen at most: one in each direction.
+pub(crate) const WAYS: usize = 4;
 
 // How many events the inputs and the outputs have.
 pub(crate) const PORTS: usize = 8;
@@ -92,8 +96,21 @@ impl Choices {
     }
 }
 
+// Puts an event, where there is one, behind the others of a list.
+#[inline]
+fn put<const MOST: usize>(events: &mut ArrayVec<Event, MOST>, event: Option<Event>)
+    requires { array_vec_len events.old < MOST }
+    ensures items { events.new.items ≡ events.old.items ++ event_of event }
+    ensures len { array_vec_len events.new ≤ array_vec_len events.old + 1 }
+{
+    if let Some(event) = event {
+        events.push(event);
+    }
+}
+
 impl Grid {
     // Puts an event behind the others of a list, where it can happen.
+    #[inline]
     fn list<const MOST: usize>(
         &self,
         state: &State,
@@ -110,47 +127,103 @@ impl Grid {
         }
     }
 
-    // What a tile that gives can do in a direction.
-    fn list_giving(&self, state: &State, tile: Tile, dir: Dir, events: &mut ArrayVec<Event, WAYS>)
+    // What a tile that waits for a value from a direction can do there: it pops, where a stack has a value.
+    #[inline]
+    fn pulled(&self, state: &State, tile: Tile, dir: Dir) -> Option<Event>
         requires fits { Fits self.now state.now.state }
-        requires room { array_vec_len events.old + 3 ≤ WAYS }
-        ensures listed { events.new.items ≡ events.old.items ++ those_enabled self.now state.now.state (events_towards tile.number dir) }
-        ensures len { array_vec_len events.new ≤ array_vec_len events.old + 3 }
+        requires there { tile.number < length self.now.puzzle.tiles.kinds }
+        requires takes { is_waiting self.now state.now.state tile.number dir ≡ true }
+        requires gives { is_giving self.now state.now.state tile.number dir ≡ false }
+        ensures { event_of result ≡ those_enabled self.now state.now.state (events_towards tile.number dir) }
     {
-        self.list(state, Event::Meet(tile, dir), events);
-        self.list(state, Event::Push(tile, dir), events);
-        self.list(state, Event::Pop(tile, dir), events);
-    }
-
-    // What a tile can do in a direction: one that gives nothing there can only pop.
-    fn list_towards(&self, state: &State, tile: Tile, dir: Dir, events: &mut ArrayVec<Event, WAYS>)
-        requires fits { Fits self.now state.now.state }
-        requires room { array_vec_len events.old + 3 ≤ WAYS }
-        ensures listed { events.new.items ≡ events.old.items ++ those_enabled self.now state.now.state (events_towards tile.number dir) }
-        ensures len { array_vec_len events.new ≤ array_vec_len events.old + 3 }
-    {
-        if self.is_giving(state, tile, dir) {
-            self.list_giving(state, tile, dir, events);
-        } else {
-            self.list(state, Event::Pop(tile, dir), events);
+        match self.next(tile, dir) {
+            Some(next) if self.has_value(state, next) => Some(Event::Pop(tile, dir)),
+            _ => None,
         }
     }
 
-    // What a tile can do.
-    pub(crate) fn tile_events(&self, state: &State, tile: Tile) -> ArrayVec<Event, WAYS>
-        requires { Fits self.now state.now.state }
+    // What a tile that gives a value to a direction can do there: it meets a tile that waits, or pushes onto a stack that
+    // isn't full.
+    #[inline]
+    fn given_to(&self, state: &State, tile: Tile, dir: Dir) -> Option<Event>
+        requires fits { Fits self.now state.now.state }
+        requires there { tile.number < length self.now.puzzle.tiles.kinds }
+        requires takes { is_waiting self.now state.now.state tile.number dir ≡ false }
+        requires gives { is_giving self.now state.now.state tile.number dir ≡ true }
+        ensures { event_of result ≡ those_enabled self.now state.now.state (events_towards tile.number dir) }
+    {
+        match self.next(tile, dir) {
+            None => None,
+            Some(next) => {
+                if self.is_waiting(state, next, opposite(dir)) {
+                    Some(Event::Meet(tile, dir))
+                } else if self.has_room(state, next) {
+                    Some(Event::Push(tile, dir))
+                } else {
+                    None
+                }
+            }
+        }
+    }
+
+    // What a tile can do that waits for a value from any port.
+    fn all_pulled(&self, state: &State, tile: Tile) -> ArrayVec<Event, WAYS>
+        requires fits { Fits self.now state.now.state }
+        requires there { tile.number < length self.now.puzzle.tiles.kinds }
+        requires local { is_enabled self.now state.now.state (events.Local tile) ≡ false }
+        requires takes { (dir : AnyDir) → is_waiting self.now state.now.state tile.number dir ≡ true }
+        requires gives { (dir : AnyDir) → is_giving self.now state.now.state tile.number dir ≡ false }
         ensures { result.items ≡ those_enabled self.now state.now.state (events_at tile.number) }
     {
         let mut events = ArrayVec::new();
-        if !self.is_compute(tile) {
-            return events;
-        }
-        self.list(state, Event::Local(tile), &mut events);
-        self.list_towards(state, tile, Dir::Left, &mut events);
-        self.list_towards(state, tile, Dir::Right, &mut events);
-        self.list_towards(state, tile, Dir::Up, &mut events);
-        self.list_towards(state, tile, Dir::Down, &mut events);
+        put(&mut events, self.pulled(state, tile, Dir::Left));
+        put(&mut events, self.pulled(state, tile, Dir::Right));
+        put(&mut events, self.pulled(state, tile, Dir::Up));
+        put(&mut events, self.pulled(state, tile, Dir::Down));
         events
+    }
+
+    // What a tile can do that gives a value to any port.
+    fn all_given(&self, state: &State, tile: Tile) -> ArrayVec<Event, WAYS>
+        requires fits { Fits self.now state.now.state }
+        requires there { tile.number < length self.now.puzzle.tiles.kinds }
+        requires local { is_enabled self.now state.now.state (events.Local tile) ≡ false }
+        requires takes { (dir : AnyDir) → is_waiting self.now state.now.state tile.number dir ≡ false }
+        requires gives { (dir : AnyDir) → is_giving self.now state.now.state tile.number dir ≡ true }
+        ensures { result.items ≡ those_enabled self.now state.now.state (events_at tile.number) }
+    {
+        let mut events = ArrayVec::new();
+        put(&mut events, self.given_to(state, tile, Dir::Left));
+        put(&mut events, self.given_to(state, tile, Dir::Right));
+        put(&mut events, self.given_to(state, tile, Dir::Up));
+        put(&mut events, self.given_to(state, tile, Dir::Down));
+        events
+    }
+
+    // The list of one event, or of none.
+    #[inline]
+    fn alone(event: Option<Event>) -> ArrayVec<Event, WAYS>
+        ensures { result.items ≡ event_of event }
+    {
+        let mut events = ArrayVec::new();
+        put(&mut events, event);
+        events
+    }
+
+    // What a tile can do. Only what its node would do next is asked for.
+    pub(crate) fn tile_events(&self, state: &State, tile: Tile) -> ArrayVec<Event, WAYS>
+        requires fits { Fits self.now state.now.state }
+        requires there { tile.number < length self.now.puzzle.tiles.kinds }
+        ensures { result.items ≡ those_enabled self.now state.now.state (events_at tile.number) }
+    {
+        match self.intent(state, tile) {
+            Intent::Nothing => Grid::alone(None),
+            Intent::Local => Grid::alone(Some(Event::Local(tile))),
+            Intent::Takes(dir) => Grid::alone(self.pulled(state, tile, dir)),
+            Intent::TakesAny => self.all_pulled(state, tile),
+            Intent::Gives(dir) => Grid::alone(self.given_to(state, tile, dir)),
+            Intent::GivesAny => self.all_given(state, tile),
+        }
     }
 
     // What can happen at the ports.

@@ -1,5 +1,8 @@
 //! Whether each event can happen next.
 ghost use Rattle.std.specs.Prelude.{◌≡◌, ◌≢◌, ◌<◌, ◌≤◌, IsTrue, IfSome, length, option_map};
+ghost use Rattle.tis_base.specs.Tiles.{neighbour_of};
+ghost use Rattle.tis_base.specs.declared.tiles.Dir.{Dir as AnyDir};
+ghost use Rattle.tis_node.specs.Intents.{is_local, takes_from, gives_to};
 ghost use Rattle.tis_asm.specs.Programs.{IsSound};
 ghost use Rattle.tis_asm.specs.Node as table;
 ghost use Rattle.tis_node.specs.NodeView.{node_view};
@@ -14,19 +17,43 @@ use crate::grid::{Grid, opposite};
 use crate::state::State;
 use tis_asm::Program;
 use tis_base::{Dir, Tile, TileKind};
-use tis_node::Node;
+use tis_node::{Intent, Node};
+
+// How many columns, and how many tiles a grid has.
+const WIDTH: u8 = 4;
+const COUNT: u8 = 12;
+
+// The tile that is next in a direction, on four columns and three rows.
+#[inline(always)]
+fn beside(tile: Tile, dir: Dir) -> Option<Tile>
+    requires { tile.number < 12 }
+    ensures { option_map (λ t. t.number) result ≡ neighbour_of (record { columns = 4; rows = 3 }) tile.number dir }
+{
+    let number = tile.number;
+    let next = match dir {
+        Dir::Left if 0 < number % WIDTH => number - 1,
+        Dir::Right if number % WIDTH + 1 < WIDTH => number + 1,
+        Dir::Up if WIDTH <= number => number - WIDTH,
+        Dir::Down if number + WIDTH < COUNT => number + WIDTH,
+        _ => return None,
+    };
+    Some(Tile { number: next })
+}
 
 impl Grid {
     // Whether a tile is there.
+    #[inline(always)]
     fn is_there(&self, tile: Tile) -> bool
         ensures there { IsTrue result → tile.number < length self.now.puzzle.tiles.kinds }
         ensures not_there { ¬ IsTrue result → length self.now.puzzle.tiles.kinds ≤ tile.number }
     {
-        let shape = self.puzzle.tiles.shape();
-        tile.number < shape.columns * shape.rows
+        // The call tells the proof how many tiles there are.
+        self.puzzle.tiles.shape();
+        tile.number < COUNT
     }
 
     // Whether a compute tile is there.
+    #[inline(always)]
     pub(crate) fn is_compute(&self, tile: Tile) -> bool
         ensures is { result ≡ event.is_compute_at self.now tile.number }
         ensures there { IsTrue result → tile.number < length self.now.puzzle.tiles.kinds }
@@ -39,7 +66,8 @@ impl Grid {
     }
 
     // Whether a memory tile is there.
-    fn is_memory(&self, tile: Tile) -> bool
+    #[inline(always)]
+    pub(crate) fn is_memory(&self, tile: Tile) -> bool
         ensures is { result ≡ event.is_memory_at self.now tile.number }
         ensures there { IsTrue result → tile.number < length self.now.puzzle.tiles.kinds }
     {
@@ -51,6 +79,7 @@ impl Grid {
     }
 
     // The program of a tile.
+    #[inline(always)]
     pub(crate) fn program(&self, tile: Tile) -> &Program
         requires { tile.number < length self.now.puzzle.tiles.kinds }
         ensures program { result.now ≡ event.program_of self.now tile.number }
@@ -59,18 +88,39 @@ impl Grid {
         self.programs.of(tile)
     }
 
-    // The tile that is next in a direction.
-    pub(crate) fn next(&self, tile: Tile, dir: Dir) -> Option<Tile>
+    /// The tile that is next in a direction, where one is there.
+    #[inline(always)]
+    pub fn next(&self, tile: Tile, dir: Dir) -> Option<Tile>
         requires { tile.number < length self.now.puzzle.tiles.kinds }
         ensures next { option_map (λ t. t.number) result ≡ event.next_tile self.now tile.number dir }
         ensures other { IfSome result (λ next. tile.number ≢ next.number) }
         ensures there { IfSome result (λ next. next.number < length self.now.puzzle.tiles.kinds) }
     {
-        self.puzzle.tiles.neighbour(tile, dir)
+        // The call tells the proof which shape the tiles have.
+        self.puzzle.tiles.shape();
+        beside(tile, dir)
+    }
+
+    /// What the node of a tile would do next, if nothing else happened; on a tile that has none, nothing. One look
+    /// answers whether it can do an instruction without a port, from which ports it waits for a value, and to which it
+    /// gives one.
+    #[inline(always)]
+    pub fn intent(&self, state: &State, tile: Tile) -> Intent
+        requires fits { Fits self.now state.now.state }
+        requires there { tile.number < length self.now.puzzle.tiles.kinds }
+        ensures local { event.is_enabled self.now state.now.state (events.Local tile) ≡ is_local result }
+        ensures takes { (dir : AnyDir) → event.is_waiting self.now state.now.state tile.number dir ≡ takes_from result dir }
+        ensures gives { (dir : AnyDir) → event.is_giving self.now state.now.state tile.number dir ≡ gives_to result dir }
+    {
+        if !self.is_compute(tile) {
+            return Intent::Nothing;
+        }
+        state.node_of(tile).intent(self.program(tile))
     }
 
     // Whether a compute tile waits for a value from a port.
-    fn is_waiting(&self, state: &State, tile: Tile, dir: Dir) -> bool
+    #[inline(always)]
+    pub(crate) fn is_waiting(&self, state: &State, tile: Tile, dir: Dir) -> bool
         requires { Fits self.now state.now.state }
         ensures is { result ≡ event.is_waiting self.now state.now.state tile.number dir }
         ensures there { IsTrue result → tile.number < length self.now.puzzle.tiles.kinds }
@@ -78,11 +128,12 @@ impl Grid {
         if !self.is_compute(tile) {
             return false;
         }
-        state.node(tile).wants(self.program(tile), dir)
+        state.node_of(tile).wants(self.program(tile), dir)
     }
 
-    // Whether a compute tile gives a value to a port.
-    pub(crate) fn is_giving(&self, state: &State, tile: Tile, dir: Dir) -> bool
+    /// Whether a compute tile gives a value to a port.
+    #[inline(always)]
+    pub fn is_giving(&self, state: &State, tile: Tile, dir: Dir) -> bool
         requires { Fits self.now state.now.state }
         ensures is { result ≡ event.is_giving self.now state.now.state tile.number dir }
         ensures there { IsTrue result → tile.number < length self.now.puzzle.tiles.kinds }
@@ -90,11 +141,12 @@ impl Grid {
         if !self.is_compute(tile) {
             return false;
         }
-        state.node(tile).offers(dir).is_some()
+        state.node_of(tile).offers(dir).is_some()
     }
 
-    // Whether a stack takes one more value.
-    fn has_room(&self, state: &State, tile: Tile) -> bool
+    /// Whether a stack takes one more value; a tile of another kind takes none.
+    #[inline(always)]
+    pub fn has_room(&self, state: &State, tile: Tile) -> bool
         requires { Fits self.now state.now.state }
         ensures { result ≡ event.has_room self.now state.now.state tile.number }
     {
@@ -104,8 +156,9 @@ impl Grid {
         !state.stack(tile).is_full()
     }
 
-    // Whether a stack has a value to give.
-    fn has_value(&self, state: &State, tile: Tile) -> bool
+    /// Whether a stack has a value to give; a tile of another kind has none.
+    #[inline(always)]
+    pub fn has_value(&self, state: &State, tile: Tile) -> bool
         requires { Fits self.now state.now.state }
         ensures { result ≡ event.has_value self.now state.now.state tile.number }
     {
@@ -116,6 +169,7 @@ impl Grid {
     }
 
     // Whether an output stands at a position.
+    #[inline(always)]
     fn output_stands(&self, state: &State, position: u8) -> bool
         requires { Fits self.now state.now.state }
         ensures { result ≡ has_output self.now.puzzle.outputs position }
@@ -124,17 +178,20 @@ impl Grid {
     }
 
     // The tile at the bottom of a column.
+    #[inline(always)]
     pub(crate) fn bottom(&self, position: u8) -> Tile
         requires { position < self.now.puzzle.tiles.shape.columns }
         ensures { result.number ≡ event.bottom_of self.now position }
     {
-        let shape = self.puzzle.tiles.shape();
+        // The call tells the proof which shape the tiles have.
+        self.puzzle.tiles.shape();
         Tile {
-            number: position + shape.columns * (shape.rows - 1),
+            number: position + (COUNT - WIDTH),
         }
     }
 
     // Whether a compute tile can do an instruction without a port.
+    #[inline(always)]
     pub(crate) fn can_local(&self, state: &State, tile: Tile) -> bool
         requires { Fits self.now state.now.state }
         ensures { result ≡ event.is_enabled self.now state.now.state (events.Local tile) }
@@ -142,10 +199,11 @@ impl Grid {
         if !self.is_compute(tile) {
             return false;
         }
-        state.node(tile).can_local(self.program(tile))
+        state.node_of(tile).can_local(self.program(tile))
     }
 
     // Whether a tile gives to the next one, which waits for it.
+    #[inline(always)]
     pub(crate) fn can_meet(&self, state: &State, tile: Tile, dir: Dir) -> bool
         requires { Fits self.now state.now.state }
         ensures { result ≡ event.is_enabled self.now state.now.state (events.Meet tile dir) }
@@ -160,6 +218,7 @@ impl Grid {
     }
 
     // Whether the tile below an input waits for its next value.
+    #[inline(always)]
     pub(crate) fn can_take(&self, state: &State, position: u8) -> bool
         requires { Fits self.now state.now.state }
         ensures { result ≡ event.is_enabled self.now state.now.state (events.In position) }
@@ -174,6 +233,7 @@ impl Grid {
     }
 
     // Whether the tile above an output gives to it.
+    #[inline(always)]
     pub(crate) fn can_give(&self, state: &State, position: u8) -> bool
         requires { Fits self.now state.now.state }
         ensures { result ≡ event.is_enabled self.now state.now.state (events.Out position) }
@@ -188,6 +248,7 @@ impl Grid {
     }
 
     // Whether a tile gives to a stack that isn't full.
+    #[inline(always)]
     pub(crate) fn can_push(&self, state: &State, tile: Tile, dir: Dir) -> bool
         requires { Fits self.now state.now.state }
         ensures { result ≡ event.is_enabled self.now state.now.state (events.Push tile dir) }
@@ -202,6 +263,7 @@ impl Grid {
     }
 
     // Whether a tile waits for a value from a stack that isn't empty.
+    #[inline(always)]
     pub(crate) fn can_pop(&self, state: &State, tile: Tile, dir: Dir) -> bool
         requires { Fits self.now state.now.state }
         ensures { result ≡ event.is_enabled self.now state.now.state (events.Pop tile dir) }

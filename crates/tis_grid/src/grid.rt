@@ -43,6 +43,7 @@ impl Model for Grid {
 }
 
 // The direction from the other side.
+#[inline]
 pub(crate) fn opposite(dir: Dir) -> Dir
     ensures { result ≡ tiles.opposite dir }
 {
@@ -104,6 +105,7 @@ impl Grid {
     }
 
     /// The puzzle.
+    #[inline]
     pub fn puzzle(&self) -> &Puzzle
         ensures puzzle { puzzle_of result.now ≡ self.now.puzzle }
         ensures grid { at.IsGrid self.now }
@@ -112,6 +114,7 @@ impl Grid {
     }
 
     /// The programs.
+    #[inline]
     pub fn programs(&self) -> &Programs
         ensures programs { result.now ≡ record { tiles = self.now.puzzle.tiles; programs = self.now.programs } }
         ensures grid { at.IsGrid self.now }
@@ -120,6 +123,7 @@ impl Grid {
     }
 
     // The values of the input at a position.
+    #[inline]
     pub(crate) fn input(&self, position: u8) -> Option<&Values>
         requires { position < self.now.puzzle.tiles.shape.columns }
         ensures values { option_map (λ v. v.now.items) result ≡ input_values self.now.puzzle position }
@@ -185,6 +189,7 @@ impl Grid {
     }
 
     /// Whether an event can happen next. One that names a tile or a position that isn't there can't.
+    #[inline]
     pub fn enabled(&self, state: &State, event: Event) -> bool
         requires { Fits self.now state.now.state }
         ensures { result ≡ is_enabled self.now state.now.state event }

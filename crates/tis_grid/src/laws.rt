@@ -1,5 +1,5 @@
 //! Laws of every grid, whatever its programs and whatever the order.
-ghost use Rattle.tis_grid.specs.Laws.{StartFits, OrdersKeepFitting, OrdersAreRuns, LinksPassAll, InputsPassAll, OutputsPassAll, StepsCountEvents, EnabledAreListed, RestListsNone, DrawnOrdersAreLegal, DrawnOrdersGrow};
+ghost use Rattle.tis_grid.specs.Laws.{StartFits, OrdersKeepFitting, OrdersAreRuns, LinksPassAll, InputsPassAll, OutputsPassAll, StepsCountEvents, EnabledAreListed, RestListsNone, DrawnOrdersAreLegal, DrawnOrdersGrow, ReturnsFit, PointsBringBack};
 
 /// The start of a grid is a state of it, and so is what a legal order leads to.
 pub fn states_fit()
@@ -37,4 +37,11 @@ pub fn enabled_events_are_listed()
 pub fn drawn_orders_are_legal()
     ensures drawn { DrawnOrdersAreLegal }
     ensures grow { DrawnOrdersGrow }
+{}
+
+/// A state's own point brings it back: from what a legal order led to, the state before it. What comes back is a
+/// state of the grid.
+pub fn points_bring_back()
+    ensures fits { ReturnsFit }
+    ensures back { PointsBringBack }
 {}

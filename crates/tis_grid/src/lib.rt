@@ -16,7 +16,7 @@
 //!
 //! The laws hold whatever the programs are and whatever the order: [`states_fit`],
 //! [`enabled_events_are_listed`], [`drawn_orders_are_legal`], [`orders_are_runs`], [`links_pass_all`],
-//! [`events_are_counted`]. They are functions without a body, whose contracts are the laws: nothing has to be
+//! [`events_are_counted`], [`points_bring_back`]. They are functions without a body, whose contracts are the laws: nothing has to be
 //! called.
 //!
 //! # An example
@@ -46,6 +46,7 @@ mod enabling;
 mod event;
 mod grid;
 mod laws;
+mod nodes;
 mod point;
 mod puzzle;
 mod renewing;
@@ -56,7 +57,7 @@ pub use event::Event;
 pub use grid::Grid;
 pub use laws::{
     drawn_orders_are_legal, enabled_events_are_listed, events_are_counted, links_pass_all,
-    orders_are_runs, states_fit,
+    orders_are_runs, points_bring_back, states_fit,
 };
 pub use point::Point;
 pub use puzzle::{InputAt, OutKind, OutputAt, Puzzle};

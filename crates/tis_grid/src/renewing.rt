@@ -1,16 +1,16 @@
 //! What can happen next, kept from one event to the next.
 //!
-//! After an event only the lists of the tiles that it changed, of those next to them and of the ports are made
-//! anew. So an event takes a time that doesn't grow with what lies elsewhere on the grid.
-ghost use Rattle.std.specs.Prelude.{◌≡◌, ◌<◌, ℕ, length, Some};
+//! After an event only the lists of the tiles that it changed, of those next to them that can do something with them
+//! and of the ports are made anew. So an event takes a time that doesn't grow with what lies elsewhere on the grid.
+ghost use Rattle.std.specs.Prelude.{◌≡◌, ◌≢◌, ◌⊎◌, ◌<◌, ℕ, IsTrue, length, Some};
 ghost use Rattle.tis_grid.specs.Events.{IsEnabled, after_event, next_tile};
-ghost use Rattle.tis_grid.specs.HeldChoices.{AreChoices, AreRenewed, IsRight, IsPlaced, touched};
+ghost use Rattle.tis_grid.specs.HeldChoices.{AreChoices, AreRenewed, IsApart, IsRight, IsPlaced, touched};
 ghost use Rattle.tis_grid.specs.HeldState.{HasRoom};
 ghost use Rattle.tis_grid.specs.Orders.{Fits};
 
 use crate::choices::Choices;
 use crate::event::Event;
-use crate::grid::Grid;
+use crate::grid::{Grid, opposite};
 use crate::state::State;
 use tis_base::{Dir, Tile};
 
@@ -42,6 +42,7 @@ impl Grid {
         requires fits { Fits self.now state.now.state }
         requires len { length choices.old.tiles ≡ 12 }
         requires within { tile.number < 12 }
+        requires there { tile.number < length self.now.puzzle.tiles.kinds }
         ensures len { length choices.new.tiles ≡ 12 }
         ensures here { IsRight self.now state.now.state choices.new.tiles tile.number }
         ensures others { (other : ℕ) → IsRight self.now state.now.state choices.old.tiles other → IsRight self.now state.now.state choices.new.tiles other }
@@ -49,23 +50,39 @@ impl Grid {
         choices.tiles[tile.number as usize] = self.tile_events(state, tile);
     }
 
-    // Makes the list of the tile that is next in a direction anew.
+    // Whether a tile can do something with the one that it is next to, whose node or stack has changed: it gives a
+    // value there, or there is a stack.
+    #[inline]
+    fn is_concerned(&self, state: &State, tile: Tile, next: Tile, dir: Dir) -> bool
+        requires { Fits self.now state.now.state }
+        ensures { ¬ IsTrue result → IsApart self.now state.now.state tile.number next.number dir }
+    {
+        if self.is_memory(tile) {
+            return true;
+        }
+        self.is_giving(state, next, opposite(dir))
+    }
+
+    // Makes the list of the tile that is next in a direction anew, where something there can have changed.
+    #[inline]
     fn renew_next(&self, state: &State, choices: &mut Choices, tile: Tile, dir: Dir)
         requires fits { Fits self.now state.now.state }
         requires len { length choices.old.tiles ≡ 12 }
         requires within { tile.number < length self.now.puzzle.tiles.kinds }
         ensures len { length choices.new.tiles ≡ 12 }
-        ensures here { (next : ℕ) → next_tile self.now tile.number dir ≡ Some next → IsRight self.now state.now.state choices.new.tiles next }
+        ensures here { (next : ℕ) → next_tile self.now tile.number dir ≡ Some next → IsRight self.now state.now.state choices.new.tiles next ⊎ IsApart self.now state.now.state tile.number next dir }
         ensures others { (other : ℕ) → IsRight self.now state.now.state choices.old.tiles other → IsRight self.now state.now.state choices.new.tiles other }
     {
         // The call tells the proof how many tiles there are.
         self.puzzle();
         if let Some(next) = self.next(tile, dir) {
-            self.renew(state, choices, next);
+            if self.is_concerned(state, tile, next, dir) {
+                self.renew(state, choices, next);
+            }
         }
     }
 
-    // Makes the lists of a tile and of those next to it anew.
+    // Makes the list of a tile anew, and those of the tiles next to it that can do something with it.
     fn renew_around(&self, state: &State, choices: &mut Choices, tile: Tile)
         requires fits { Fits self.now state.now.state }
         requires len { length choices.old.tiles ≡ 12 }
@@ -79,6 +96,21 @@ impl Grid {
         self.renew_next(state, choices, tile, Dir::Right);
         self.renew_next(state, choices, tile, Dir::Up);
         self.renew_next(state, choices, tile, Dir::Down);
+    }
+
+    // Makes the lists around another tile anew, if it is another one.
+    #[inline]
+    fn renew_second(&self, state: &State, choices: &mut Choices, first: Tile, second: Tile)
+        requires fits { Fits self.now state.now.state }
+        requires len { length choices.old.tiles ≡ 12 }
+        requires within { second.number < length self.now.puzzle.tiles.kinds }
+        ensures len { length choices.new.tiles ≡ 12 }
+        ensures renewed { first.number ≢ second.number → AreRenewed self.now state.now.state second.number choices.old choices.new }
+        ensures same { first.number ≡ second.number → choices.new ≡ choices.old }
+    {
+        if first.number != second.number {
+            self.renew_around(state, choices, second);
+        }
     }
 
     // Applies an event that is enabled, and keeps what can happen next.
@@ -96,7 +128,7 @@ impl Grid {
         let (first, second) = self.touched(event);
         self.apply(state, event);
         self.renew_around(state, choices, first);
-        self.renew_around(state, choices, second);
+        self.renew_second(state, choices, first, second);
         choices.ports = self.port_events(state);
     }
 }

@@ -1,11 +1,12 @@
 //! A grid at one moment.
 ghost use Rattle.std.specs.Prelude.{◌≡◌, ◌≤◌, ◌<◌, ◌-◌, ◌++◌, ◌∷◌, [], ℕ, length, map, replicate, slice_get, slice_index_or, slice_set, option_map, unwrap_or, Some, None, OnOk};
 ghost use Rattle.tis_node.specs.NodeView.{node_view};
-ghost use Rattle.tis_grid.specs.State.{node_at, stack_at, input_left, left_at, output_taken, outs};
+ghost use Rattle.tis_grid.specs.Orders.{Fits};
+ghost use Rattle.tis_grid.specs.State.{Grid as SomeGrid, State as SomeState, node_at, stack_at, input_left, left_at, output_taken, outs};
 ghost use Rattle.tis_devices.specs.Stack.{ROOM, newest, without_newest};
 ghost use Rattle.tis_grid.specs.declared.event.Event.TheVariants as event;
 ghost use Rattle.tis_grid.specs.HeldState.{output_spare, spare_at, least_spare, spares_after, HasSpare, HasRoomEach, NeverFall};
-ghost use Rattle.tis_grid.specs.Events.{with_node, with_stack};
+ghost use Rattle.tis_grid.specs.Events.{with_stack};
 ghost use Rattle.tis_grid.specs.Points.{point_of, returned, HasTaken, CanReturn, cut, cut_each};
 
 use crate::point::Point;
@@ -125,6 +126,7 @@ fn reserve_each(outs: &mut [Option<Values>], count: usize) -> Result<(), NoMemor
 }
 
 // How many values an output took.
+#[inline]
 fn count_of(taken: &Option<Values>) -> Option<usize>
     ensures { result ≡ option_map (λ values. length values) (option_map (λ v. v.items) taken.now) }
 {
@@ -169,6 +171,7 @@ fn cut_all(outs: &mut [Option<Values>], lengths: &[Option<usize>])
 }
 
 // One more value of an output, in a spare place.
+#[inline]
 fn append_one(taken: &mut Option<Values>, value: Value)
     requires { 0 < unwrap_or (option_map (λ v. v.spare) taken.old) 0 }
     ensures items { option_map (λ v. v.items) taken.new ≡ Some (unwrap_or (option_map (λ v. v.items) taken.old) [] ++ value ∷ []) }
@@ -201,6 +204,7 @@ impl State {
     }
 
     /// What the output at a position has taken so far, or None where no output stands.
+    #[inline]
     pub fn out(&self, position: u8) -> Option<&Values>
         ensures values { option_map (λ v. v.now.items) result ≡ output_taken self.now.state position }
         ensures spare { option_map (λ v. v.now.spare) result ≡ output_spare self.now.spares position }
@@ -212,6 +216,7 @@ impl State {
     }
 
     /// How many values of the input at a position are left, or None where no input stands.
+    #[inline]
     pub fn left(&self, position: u8) -> Option<usize>
         ensures { result ≡ input_left self.now.state position }
     {
@@ -222,6 +227,7 @@ impl State {
     }
 
     /// The node of a compute tile.
+    #[inline]
     pub fn node(&self, tile: Tile) -> Node
         requires { tile.number < length self.now.state.nodes }
         ensures { node_view result ≡ node_at self.now.state tile.number }
@@ -230,6 +236,7 @@ impl State {
     }
 
     /// The stack of a memory tile.
+    #[inline]
     pub fn stack(&self, tile: Tile) -> &Stack
         requires { tile.number < length self.now.state.stacks }
         ensures { result.now ≡ stack_at self.now.state tile.number }
@@ -238,21 +245,15 @@ impl State {
     }
 
     // How many values of the input at a position are left, and 0 where no input stands.
+    #[inline]
     pub(crate) fn count_left(&self, position: u8) -> usize
         ensures { result ≡ left_at self.now.state position }
     {
         self.left(position).unwrap_or(0)
     }
 
-    // Puts a node in place of that of a tile.
-    pub(crate) fn set_node(&mut self, tile: Tile, node: Node)
-        requires { tile.number < length self.old.state.nodes }
-        ensures { self.new ≡ record self.old { state = with_node self.old.state tile.number (node_view node) } }
-    {
-        self.nodes[tile.number as usize] = node;
-    }
-
     // One more value on a stack.
+    #[inline]
     pub(crate) fn push(&mut self, tile: Tile, value: Value)
         requires within { tile.number < length self.old.state.stacks }
         requires room { length (stack_at self.old.state tile.number) < ROOM }
@@ -262,6 +263,7 @@ impl State {
     }
 
     // Takes the newest value off a stack.
+    #[inline]
     pub(crate) fn pop(&mut self, tile: Tile) -> Value
         requires within { tile.number < length self.old.state.stacks }
         requires value { 0 < length (stack_at self.old.state tile.number) }
@@ -272,6 +274,7 @@ impl State {
     }
 
     // One value of an input is left less.
+    #[inline]
     pub(crate) fn take_input(&mut self, position: u8)
         requires { 0 < left_at self.old.state position }
         ensures { self.new ≡ record self.old { state = record self.old.state { left = slice_set self.old.state.left position (Some (left_at self.old.state position - 1)) } } }
@@ -281,6 +284,7 @@ impl State {
     }
 
     // One more value of an output, in a spare place.
+    #[inline]
     pub(crate) fn append(&mut self, position: u8, value: Value)
         requires { 0 < spare_at self.old.spares position }
         ensures state { self.new.state ≡ record self.old.state { outs = slice_set self.old.state.outs position (Some (outs self.old.state position ++ value ∷ [])) } }
@@ -308,6 +312,7 @@ impl State {
         requires { CanReturn self.old.state point.now }
         ensures state { self.new.state ≡ returned self.old.state point.now }
         ensures spares { NeverFall self.old.spares self.new.spares }
+        ensures fits { (grid : SomeGrid) (earlier : SomeState) → Fits grid self.old.state → Fits grid earlier → point.now ≡ point_of earlier → Fits grid self.new.state }
     {
         cut_all(&mut self.outs, &point.lengths);
         self.nodes = copy_nodes(&point.nodes);

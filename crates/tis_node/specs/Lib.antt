@@ -1,2 +1,3 @@
 pub mod NodeView
 pub mod SupplyView
+pub mod Intents

@@ -3,7 +3,7 @@
 //! The layer above uses one promise: each call of [`Node`] is its entry in the table of a node that
 //! `tis_asm` defines (`specs/Node.antt`), for every program and every state of a node of it. A node can
 //! do a local step, take a value from a port that it wants one from, or give the value that it offers to
-//! a port; the calls that ask come in front of the calls that do.
+//! a port; the calls that ask come in front of the calls that do, and [`Node::intent`] asks all at once.
 //!
 //! ```text
 //! let program = assemble(alloc, b"MOV UP, DOWN")?;
@@ -22,7 +22,7 @@
 
 mod node;
 
-pub use node::{Mode, Node, Toward};
+pub use node::{Intent, Mode, Node, Toward};
 
 #[cfg(test)]
 mod tests;

@@ -1,9 +1,11 @@
 //! A compute node and what it can do.
-ghost use Rattle.std.specs.Prelude.{◌≡◌, ◌↔◌, ◌<◌, IsTrue, IsSome, length};
+ghost use Rattle.std.specs.Prelude.{◌≡◌, ◌↔◌, ◌<◌, IsTrue, IsSome, is_some, length};
 ghost use Rattle.tis_asm.specs.Programs.{HasValues, IsSound};
 ghost use Rattle.tis_asm.specs.Node as table;
 ghost use Rattle.tis_node.specs.NodeView.{node_view, toward_view};
 ghost use Rattle.tis_node.specs.SupplyView.{supply_view};
+ghost use Rattle.tis_node.specs.Intents as intents;
+ghost use Rattle.tis_base.specs.declared.tiles.Dir.{Dir as AnyDir};
 
 use tis_asm::{Dest, Instr, Jump, Program, Source};
 use tis_base::{Dir, Value};
@@ -42,6 +44,40 @@ pub struct Node {
     pub mode: Mode,
 }
 
+/// What a node would do next.
+#[derive(Clone, Copy, Debug, PartialEq, Eq, Hash)]
+pub enum Intent {
+    /// Nothing: it has no instruction.
+    Nothing,
+    /// An instruction that needs no port.
+    Local,
+    /// It waits for a value from this port.
+    Takes(Dir),
+    /// It waits for a value from any port.
+    TakesAny,
+    /// It gives its value to this port.
+    Gives(Dir),
+    /// It gives its value to any port.
+    GivesAny,
+}
+
+impl Intent {
+    /// Whether it is an instruction that needs no port.
+    #[inline(always)]
+    pub fn is_local(&self) -> bool
+        ensures { result ≡ intents.is_local self.now }
+    {
+        match self {
+            Intent::Local => true,
+            Intent::Nothing
+            | Intent::Takes(_)
+            | Intent::TakesAny
+            | Intent::Gives(_)
+            | Intent::GivesAny => false,
+        }
+    }
+}
+
 // Where the value of a source is.
 #[derive(Clone, Copy, Debug)]
 pub(crate) enum Supply {
@@ -51,6 +87,7 @@ pub(crate) enum Supply {
 }
 
 // The source of an instruction, where it has one.
+#[inline(always)]
 fn source_of(instr: &Instr) -> Option<Source>
     ensures { result ≡ table.source_of instr.now }
 {
@@ -63,6 +100,7 @@ fn source_of(instr: &Instr) -> Option<Source>
 }
 
 // Whether a jump is made, by the number in ACC.
+#[inline(always)]
 fn jumps(jump: Jump, acc: Value) -> bool
     ensures { result ≡ table.jumps jump acc }
 {
@@ -77,6 +115,7 @@ fn jumps(jump: Jump, acc: Value) -> bool
 }
 
 // So many instructions on or back from a number, but not before the first one nor behind the last one.
+#[inline(always)]
 fn away(program: &Program, pc: u8, by: Value) -> u8
     requires { pc < length program.now }
     ensures { result ≡ table.away program.now pc by }
@@ -87,6 +126,7 @@ fn away(program: &Program, pc: u8, by: Value) -> u8
 
 impl Node {
     /// A node at the start: ready, at the first instruction, with 0 in both registers and no last port.
+    #[inline]
     pub fn fresh() -> Node
         ensures { node_view result ≡ table.fresh }
     {
@@ -101,6 +141,7 @@ impl Node {
 
     /// Whether it is a node of this program: its pc is the number of an instruction, or the program is
     /// empty, the pc is 0 and the node is ready.
+    #[inline]
     pub fn fits(&self, program: &Program) -> bool
         ensures { IsTrue result ↔ table.FitsProgram program.now (node_view self.now) }
     {
@@ -117,6 +158,7 @@ impl Node {
     }
 
     // The instruction at the pc.
+    #[inline(always)]
     fn instr(&self, program: &Program) -> Option<Instr>
         ensures instr { result ≡ table.instr_at program.now self.now.pc }
         ensures values { HasValues program.now }
@@ -129,6 +171,7 @@ impl Node {
     }
 
     // Where the value of a source is.
+    #[inline(always)]
     fn supply_of(&self, source: Source) -> Supply
         ensures { supply_view result ≡ table.supply_of source (node_view self.now) }
     {
@@ -146,6 +189,7 @@ impl Node {
     }
 
     // Ready, at the next instruction.
+    #[inline(always)]
     fn go_on(&mut self, program: &Program)
         requires { self.old.pc < length program.now }
         ensures { node_view self.new ≡ table.goes_on program.now (node_view self.old) }
@@ -157,6 +201,7 @@ impl Node {
     }
 
     // Ready, at the instruction with this number.
+    #[inline(always)]
     fn go_to(&mut self, number: u8)
         ensures { node_view self.new ≡ table.goes_to number (node_view self.old) }
     {
@@ -165,6 +210,7 @@ impl Node {
     }
 
     // Waits until the value is read.
+    #[inline(always)]
     fn write(&mut self, value: Value, to: Toward)
         ensures { node_view self.new ≡ table.writes value (toward_view to) (node_view self.old) }
     {
@@ -172,6 +218,7 @@ impl Node {
     }
 
     // What an instruction does that has no source.
+    #[inline(always)]
     fn do_plain(&mut self, instr: Instr, program: &Program)
         requires { self.old.pc < length program.now }
         ensures { node_view self.new ≡ table.does instr program.now (node_view self.old) }
@@ -204,6 +251,7 @@ impl Node {
     }
 
     // A value goes where the instruction says.
+    #[inline(always)]
     fn put_to(&mut self, dest: Dest, program: &Program, value: Value)
         requires { self.old.pc < length program.now }
         ensures { node_view self.new ≡ table.put_to dest program.now (node_view self.old) value }
@@ -224,6 +272,7 @@ impl Node {
     }
 
     // What an instruction with a source does with its value.
+    #[inline(always)]
     fn do_with(&mut self, instr: Instr, program: &Program, value: Value)
         requires { self.old.pc < length program.now }
         ensures { node_view self.new ≡ table.does_with instr program.now (node_view self.old) value }
@@ -244,6 +293,7 @@ impl Node {
     }
 
     // What an instruction does without a port.
+    #[inline]
     fn do_local(&mut self, instr: Instr, program: &Program)
         requires { self.old.pc < length program.now }
         ensures { node_view self.new ≡ table.does_by (table.source_of instr) instr program.now (node_view self.old) }
@@ -258,6 +308,7 @@ impl Node {
     }
 
     // ANY remembers the port that it used.
+    #[inline(always)]
     fn remember(&mut self, supply: Supply, dir: Dir)
         ensures { node_view self.new ≡ table.remembers (supply_view supply) dir (node_view self.old) }
     {
@@ -268,6 +319,7 @@ impl Node {
     }
 
     // What an instruction does with a value that came through a port.
+    #[inline]
     fn do_take(&mut self, instr: Instr, program: &Program, dir: Dir, value: Value)
         requires { self.old.pc < length program.now }
         ensures { node_view self.new ≡ table.take_with (table.source_of instr) instr program.now (node_view self.old) dir value }
@@ -282,7 +334,47 @@ impl Node {
         }
     }
 
+    // What an instruction would do.
+    #[inline(always)]
+    fn intent_at(&self, instr: Instr) -> Intent
+        ensures { result ≡ intents.intent_with (table.source_of instr) (node_view self.now) }
+    {
+        match source_of(&instr) {
+            None => Intent::Local,
+            Some(source) => match self.supply_of(source) {
+                Supply::AtHand(_) => Intent::Local,
+                Supply::AtPort(port) => Intent::Takes(port),
+                Supply::AtAny => Intent::TakesAny,
+            },
+        }
+    }
+
+    /// What the node would do next: whether it can make a local step, from which ports it waits for a value, and to
+    /// which it gives its own. One look answers all that the calls below are asked one by one.
+    #[inline(always)]
+    pub fn intent(&self, program: &Program) -> Intent
+        ensures is { result ≡ intents.intent_of program.now (node_view self.now) }
+        ensures local { table.can_local program.now (node_view self.now) ≡ intents.is_local result }
+        ensures takes { (dir : AnyDir) → table.wants program.now (node_view self.now) dir ≡ intents.takes_from result dir }
+        ensures gives { (dir : AnyDir) → is_some (table.offers (node_view self.now) dir) ≡ intents.gives_to result dir }
+    {
+        match self.mode {
+            Mode::Ready => match self.instr(program) {
+                None => Intent::Nothing,
+                Some(instr) => self.intent_at(instr),
+            },
+            Mode::Writing {
+                to: Toward::One(port),
+                ..
+            } => Intent::Gives(port),
+            Mode::Writing {
+                to: Toward::Any, ..
+            } => Intent::GivesAny,
+        }
+    }
+
     /// Whether the node can make a local step: it is ready, and its instruction needs no port.
+    #[inline]
     pub fn can_local(&self, program: &Program) -> bool
         requires sound { IsSound program.now }
         requires fits { table.FitsProgram program.now (node_view self.now) }
@@ -298,6 +390,7 @@ impl Node {
     }
 
     /// Makes its local step.
+    #[inline]
     pub fn local(&mut self, program: &Program)
         requires sound { IsSound program.now }
         requires fits { table.FitsProgram program.now (node_view self.old) }
@@ -311,7 +404,59 @@ impl Node {
         }
     }
 
+    // Does an instruction, where it needs no port, and tells what it would do.
+    #[inline(always)]
+    fn advance_by(&mut self, instr: Instr, program: &Program) -> Intent
+        requires { self.old.pc < length program.now }
+        ensures intent { result ≡ intents.intent_with (table.source_of instr) (node_view self.old) }
+        ensures step { node_view self.new ≡ table.does_by (table.source_of instr) instr program.now (node_view self.old) }
+    {
+        match source_of(&instr) {
+            None => {
+                self.do_plain(instr, program);
+                Intent::Local
+            }
+            Some(source) => match self.supply_of(source) {
+                Supply::AtHand(held) => {
+                    self.do_with(instr, program, held);
+                    Intent::Local
+                }
+                Supply::AtPort(port) => Intent::Takes(port),
+                Supply::AtAny => Intent::TakesAny,
+            },
+        }
+    }
+
+    /// Makes the node's local step, where it can make one, and tells what it would do: [`Node::intent`] and
+    /// [`Node::local`] in one look.
+    #[inline(always)]
+    pub fn advance(&mut self, program: &Program) -> Intent
+        requires sound { IsSound program.now }
+        requires fits { table.FitsProgram program.now (node_view self.old) }
+        ensures local { table.can_local program.now (node_view self.old) ≡ intents.is_local result }
+        ensures takes { (dir : AnyDir) → table.wants program.now (node_view self.old) dir ≡ intents.takes_from result dir }
+        ensures gives { (dir : AnyDir) → is_some (table.offers (node_view self.old) dir) ≡ intents.gives_to result dir }
+        ensures steps { IsTrue (intents.is_local result) → node_view self.new ≡ table.local_step program.now (node_view self.old) }
+        ensures stays { ¬ IsTrue (intents.is_local result) → node_view self.new ≡ node_view self.old }
+        ensures fits { table.FitsProgram program.now (node_view self.new) }
+    {
+        match self.mode {
+            Mode::Ready => match self.instr(program) {
+                None => Intent::Nothing,
+                Some(instr) => self.advance_by(instr, program),
+            },
+            Mode::Writing {
+                to: Toward::One(port),
+                ..
+            } => Intent::Gives(port),
+            Mode::Writing {
+                to: Toward::Any, ..
+            } => Intent::GivesAny,
+        }
+    }
+
     /// Whether the node waits for a value from this port.
+    #[inline]
     pub fn wants(&self, program: &Program, dir: Dir) -> bool
         requires sound { IsSound program.now }
         requires fits { table.FitsProgram program.now (node_view self.now) }
@@ -332,6 +477,7 @@ impl Node {
 
     /// Takes a value from a port that it wants one from. A value that comes through ANY makes this port
     /// the last one before the destination is looked at.
+    #[inline]
     pub fn take(&mut self, program: &Program, dir: Dir, value: Value)
         requires sound { IsSound program.now }
         requires fits { table.FitsProgram program.now (node_view self.old) }
@@ -348,6 +494,7 @@ impl Node {
     }
 
     /// The value that the node gives to whoever reads from this port, or None where it gives none there.
+    #[inline]
     pub fn offers(&self, dir: Dir) -> Option<Value>
         ensures { result ≡ table.offers (node_view self.now) dir }
     {
@@ -366,6 +513,7 @@ impl Node {
 
     /// Gave the value that it offers to this port, and goes on. Through ANY this port becomes the last
     /// one.
+    #[inline]
     pub fn gave(&mut self, program: &Program, dir: Dir)
         requires sound { IsSound program.now }
         requires fits { table.FitsProgram program.now (node_view self.old) }

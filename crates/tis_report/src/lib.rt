@@ -5,7 +5,8 @@
 //! A report is one text: a line that says how the run ended, and the outputs of the grid by ascending position. An
 //! output that keeps its values is a line `out P` with them; one that draws is a line `image P` and the picture,
 //! eighteen lines of thirty digits. [`ended_report`] is that of a run to rest or to its limit,
-//! [`replayed_report`] and [`not_enabled_report`] are those of an order that was handed in.
+//! [`replayed_report`] and [`not_enabled_report`] are those of an order that was handed in. [`push_outputs`],
+//! [`push_value`] and [`push_count`] write the parts that other reports share.
 //!
 //! # What the crates above use
 //!
@@ -35,7 +36,9 @@ mod report;
 mod stream;
 
 pub use count::push_count;
+pub use outputs::push_outputs;
 pub use report::{ended_report, not_enabled_report, replayed_report};
+pub use stream::push_value;
 
 #[cfg(test)]
 mod tests;

@@ -54,7 +54,7 @@ fn push_output_at(
 }
 
 /// Writes the outputs by ascending position.
-pub(crate) fn push_outputs(
+pub fn push_outputs(
     out: &mut Vec<u8>,
     puzzle: &Puzzle,
     state: &State,

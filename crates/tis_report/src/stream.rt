@@ -12,8 +12,8 @@ pub(crate) fn push_head(out: &mut Vec<u8>, word: &[u8], position: u8) -> Result<
     push_number(out, i64::from(position))
 }
 
-// Writes a value behind a blank.
-fn push_value(out: &mut Vec<u8>, value: Value) -> Result<(), NoMemory>
+/// Writes a value behind a blank.
+pub fn push_value(out: &mut Vec<u8>, value: Value) -> Result<(), NoMemory>
     ensures { OnOk result (out.new.items ≡ out.old.items ++ value_text value) }
 {
     out.push(b' ')?;

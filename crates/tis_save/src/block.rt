@@ -44,13 +44,18 @@ fn block_error(block: u8, error: AsmError) -> SaveError
 
 // One more block at the end, with the program of the lines that were taken; none where no block has
 // begun.
-fn close(blocks: &mut Vec<ReadBlock>, begun: Option<u8>, code: &Assembler) -> Result<(), SaveError>
+fn close(
+    alloc: Global,
+    blocks: &mut Vec<ReadBlock>,
+    begun: Option<u8>,
+    code: &Assembler,
+) -> Result<(), SaveError>
     ensures { Answers (λ _. blocks_view blocks.new.items) result (closed (blocks_view blocks.old.items) begun (assembled_with code.now [])) }
 {
     let Some(number) = begun else {
         return Ok(());
     };
-    match code.finish() {
+    match code.finish(alloc) {
         Ok(program) => {
             blocks.push(ReadBlock { number, program })?;
             Ok(())
@@ -69,14 +74,14 @@ pub(crate) fn read_blocks(alloc: Global, text: &[u8]) -> Result<Vec<ReadBlock>, 
     let mut code = Assembler::new(alloc);
     for line in lines(text) {
         if is_head(line) {
-            close(&mut blocks, begun, &code)?;
+            close(alloc, &mut blocks, begun, &code)?;
             begun = Some(block_number(line));
             code = Assembler::new(alloc);
         } else {
             code.push(alloc, line)?;
         }
     }
-    close(&mut blocks, begun, &code)?;
+    close(alloc, &mut blocks, begun, &code)?;
     Ok(blocks)
 }
 

@@ -53,6 +53,11 @@ fn a_text_is_refused_by_its_first_wrong_line_and_then_by_its_code(
     rt: HostRuntime,
 ) -> Result<(), Fail> {
     let sixteen = b"@3\n\n\n\n\n\n\n\n\n\n\n\n\n\n\n\nNOP";
+    // A comment of 81 bytes, on the first line of a block and on the last.
+    let long =
+        b"@0\n# a comment of eighty-one bytes is one byte too long for a line of code to be rea\n@1\nFOO";
+    let long_at_end =
+        b"@11\n\n\n\n\n\n\n\n\n\n\n\n\n\n\n# a comment of eighty-one bytes is one byte too long for a line of code to be rea";
     let tiles = tiles_but(12).ok_or("no tiles")?;
     for (text, want) in [
         (b"@x\n".as_slice(), SaveError::BadHead { line: 1 }),
@@ -83,6 +88,11 @@ fn a_text_is_refused_by_its_first_wrong_line_and_then_by_its_code(
         (
             b"@11\nA:\n\nA:\n@2\nFOO".as_slice(),
             code(11, AsmError::RepeatedLabel { line: 3 }),
+        ),
+        (long.as_slice(), code(0, AsmError::LongLine { line: 1 })),
+        (
+            long_at_end.as_slice(),
+            code(11, AsmError::LongLine { line: 15 }),
         ),
         (sixteen.as_slice(), code(3, AsmError::TooManyLines)),
     ] {

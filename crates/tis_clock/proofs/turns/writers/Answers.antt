@@ -7,7 +7,7 @@ use Rattle.tis_clock.specs.Cycle.{is_writing}
 use Rattle.tis_clock.proofs.turns.writers.Goals as goal
 
 pub loop-number-init : goal.loop-number-init
-loop-number-init c = record { len = refl; done = λ tile below. absurd (omega (arith, below)); others = λ tile above. none_kept 48 tile }
+loop-number-init c = record { len = refl; done = λ tile below. absurd (omega (arith, below)); others = λ tile above. none_kept 12 tile }
 
 pub loop-number-preserved : goal.loop-number-preserved
 loop-number-preserved c =

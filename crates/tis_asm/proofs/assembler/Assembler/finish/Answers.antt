@@ -10,14 +10,14 @@ pub returns-then-self-gt-MOST : goal.returns-then-self-gt-MOST
 unfolding assembled_with
 returns-then-self-gt-MOST c = record { answer = too_many _ _ c.if-self-gt-MOST.true }
 
-pub returns-in_err-check_lines : goal.returns-in_err-check_lines
+pub returns-in_err-reading : goal.returns-in_err-reading
 unfolding assembled_with
-returns-in_err-check_lines c =
+returns-in_err-reading c =
     let p = err_from_is_err_and c.from_residual.result c.from_residual.ensures.1 in
     let count = c.args.self.now.count in
     let items = c.args.self.now.sources.items in
     let n_is : c.min.result ≡ min count (length items) = omega arith in
-    rw (p.1, p.2) (record { answer = lines_refused count c.min.result items (take c.min.result c.deref.result.now) c.in_err-check_lines.field-0.0 (omega arith) n_is (ap (λ (l : List HeldSource). take c.min.result l) c.deref.ensures.value) c.in_err-check_lines.ensures })
+    rw (p.1, p.2) (record { answer = lines_refused count c.min.result items (take c.min.result c.deref.result.now) c.in_err-reading.field-0.0 (omega arith) n_is (ap (λ (l : List HeldSource). take c.min.result l) c.deref.ensures.value) c.in_err-reading.ensures })
 
 pub returns : goal.returns
 unfolding assembled_with
@@ -25,4 +25,4 @@ returns c =
     let count = c.args.self.now.count in
     let items = c.args.self.now.sources.items in
     let n_is : c.min.result ≡ min count (length items) = omega arith in
-    record { answer = lines_assembled count c.min.result items (take c.min.result c.deref.result.now) c.program_of.result (omega arith) n_is (ap (λ (l : List HeldSource). take c.min.result l) c.deref.ensures.value) c.in_ok-check_lines.ensures c.program_of.ensures }
+    record { answer = lines_assembled count c.min.result items (take c.min.result c.deref.result.now) _ c.finish.result (omega arith) n_is (ap (λ (l : List HeldSource). take c.min.result l) c.deref.ensures.value) c.in_ok-reading.ensures c.finish.ensures }

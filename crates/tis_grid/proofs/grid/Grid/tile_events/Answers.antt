@@ -1,16 +1,16 @@
-use Rattle.std.proofs.Common.{◌≡◌, sym, ◌∙◌, []}
-use Rattle.tis_grid.specs.Choices.{those_enabled}
-use Rattle.tis_grid.proofs.Choosing.{grown, those-empty, none_at}
+-- Each intent leaves these ways alone.
+use Rattle.std.proofs.Common.{◌∙◌}
+use Rattle.tis_grid.proofs.Intended.{does_nothing, steps_alone, takes_one, gives_one}
 use Rattle.tis_grid.proofs.grid.Grid.tile_events.Goals as goal
 
-pub returns : goal.returns
-returns c =
-    let none : c.new-events.result.items ≡ those_enabled c.args.self.now c.args.state.now.state [] = c.new-events.ensures ∙ sym (those-empty c.args.self.now c.args.state.now.state) in
-    let local = grown c.args.self.now c.args.state.now.state _ _ _ _ none c.list.ensures.listed in
-    let left = grown c.args.self.now c.args.state.now.state _ _ _ _ local c.list_towards.ensures.listed in
-    let right = grown c.args.self.now c.args.state.now.state _ _ _ _ left c.list_towards-2.ensures.listed in
-    let up = grown c.args.self.now c.args.state.now.state _ _ _ _ right c.list_towards-3.ensures.listed in
-    grown c.args.self.now c.args.state.now.state _ _ _ _ up c.list_towards-4.ensures.listed
+pub returns-in-Nothing : goal.returns-in-Nothing
+returns-in-Nothing c = c.alone.ensures ∙ does_nothing c.args.self.now c.args.state.now.state c.args.tile.number c.in-Nothing.ensures.local c.in-Nothing.ensures.takes c.in-Nothing.ensures.gives
 
-pub returns-then-not-is_compute : goal.returns-then-not-is_compute
-returns-then-not-is_compute c = c.new-events.ensures ∙ none_at c.args.self.now c.args.state.now.state c.args.tile.number (sym c.is_compute.ensures.is ∙ c.if-not-is_compute.true)
+pub returns-in-Local : goal.returns-in-Local
+returns-in-Local c = c.alone-in-Local.ensures ∙ steps_alone c.args.self.now c.args.state.now.state c.args.tile.number c.in-Local.ensures.local c.in-Local.ensures.takes c.in-Local.ensures.gives
+
+pub returns-in-Takes : goal.returns-in-Takes
+returns-in-Takes c = c.alone-in-Takes.ensures ∙ c.pulled.ensures ∙ takes_one c.args.self.now c.args.state.now.state c.args.tile.number c.in-Takes.ensures.local c.in-Takes.dir c.in-Takes.ensures.takes c.in-Takes.ensures.gives
+
+pub returns-in-Gives : goal.returns-in-Gives
+returns-in-Gives c = c.alone-in-Gives.ensures ∙ c.given_to.ensures ∙ gives_one c.args.self.now c.args.state.now.state c.args.tile.number c.in-Gives.ensures.local c.in-Gives.dir c.in-Gives.ensures.takes c.in-Gives.ensures.gives

@@ -1,0 +1,17 @@
+use Rattle.std.proofs.Common.{sym, subst}
+use Rattle.std.proofs.lemmas.Result.{err_from_is_err_and}
+use Rattle.tis_debug.specs.Scripts.{script_of}
+use Rattle.tis_cli.specs.Answers.{Answer}
+use Rattle.tis_cli.specs.Runs.{debugged, debug_answer}
+use Rattle.tis_cli.specs.Ends.{Ends}
+use Rattle.tis_cli.proofs.runs.debug.Goals as goal
+
+pub returns-in_err-grid : goal.returns-in_err-grid
+unfolding debug_answer
+returns-in_err-grid c =
+    let p = err_from_is_err_and c.from_residual.result c.from_residual.ensures.1 in
+    rw (p.1, p.2) (c.in_err-grid.ensures (debugged (script_of c.args.script.now)))
+
+pub returns : goal.returns
+unfolding debug_answer
+returns c = subst (λ (a : Answer). Ends c.run_script.result a) (sym (c.in_ok-grid.ensures (debugged (script_of c.args.script.now)))) c.run_script.ensures

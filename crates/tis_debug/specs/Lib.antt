@@ -1,0 +1,4 @@
+pub mod Sessions
+pub mod Shown
+pub mod Scripts
+pub mod Held
