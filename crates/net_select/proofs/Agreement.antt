@@ -134,7 +134,7 @@ module _ (program : List MarkedInstr) (ports : Ports) (names : Names) (distinct 
   -- a node that awaits a value that isn't left takes no step
   stands_still : (name : ℕ) (node : Node) (step : Step) (steps : List Step) (left : ℕ → List ℤ) → Awaits program node (ports name) → names.Read name → left name ≡ [] → IsStep program node step → TakesWhatIsRead (step ∷ steps) [] left → ⊥
   stands_still name node Local steps left awaits read none can takes = true≢false (sym can ∙ awaits_local program node (ports name) awaits)
-  stands_still name node (Took dir value) steps left awaits read none can takes = cut (same_dir (ports name) dir (sym (awaits_wants program node (ports name) dir awaits) ∙ can.0)) 
+  stands_still name node (Took dir value) steps left awaits read none can takes = cut (same_dir (ports name) dir (sym (awaits_wants program node (ports name) dir awaits) ∙ can.0))
     where
       cut : ports name ≡ dir → ⊥
       cut same = full (ap (λ (b : Bool). cond b (value ∷ []) [] ++ taken_from (ports name) steps) (sym (is_same_dir_self (ports name))) ∙ subst (λ (d : Dir). taken_from (ports name) (Took d value ∷ steps) ≡ []) (sym same) (takes name read ∙ none))

@@ -53,9 +53,10 @@ at_seam (first ∷ front) marked rest = at_seam front marked rest
 code_stands : (program : List MarkedInstr) (ports : Ports) (front : List MarkedInstr) (code : Code) → program ≡ front ++ map unmarked code → HoldsAt program ports (length front) code
 code_stands program ports front [] is = tt
 code_stands program ports front (i ∷ code) is =
-    let here : slice_get program (length front) ≡ Some (unmarked i) = ap (λ (p : List MarkedInstr). slice_get p (length front)) is ∙ at_seam front (unmarked i) (map unmarked code) in
-    ( ap (option_map (λ (marked : MarkedInstr). marked.instr)) here
-    , moved program ports code (length (front ++ unmarked i ∷ [])) (length front + 1) (length-append front (unmarked i ∷ [])) (code_stands program ports (front ++ unmarked i ∷ []) code (is ∙ sym (append_assoc front (unmarked i ∷ []) (map unmarked code)))) )
+    let here : slice_get program (length front) ≡ Some (unmarked i) = ap (λ (p : List MarkedInstr). slice_get p (length front)) is ∙ at_seam front (unmarked i) (map unmarked code) in (
+      ap (option_map (λ (marked : MarkedInstr). marked.instr)) here,
+      moved program ports code (length (front ++ unmarked i ∷ [])) (length front + 1) (length-append front (unmarked i ∷ [])) (code_stands program ports (front ++ unmarked i ∷ []) code (is ∙ sym (append_assoc front (unmarked i ∷ []) (map unmarked code)))),
+    )
 
 -- ---- what a node took are values
 
@@ -199,11 +200,12 @@ module _ (program : List MarkedInstr) (body : Block ℕ) (ports : Ports) (distin
     waits_for dir wanted = by agreement.rest refl agreement.more fronts.1
       where
         by : (rest : List Act) → agreement.rest ≡ rest → Run program ports node rest ran.end → AreNamed (names_of body) rest → (other : ℕ) × (ports other ≡ dir) × (process.outcome ≡ WaitsOn other) × ((written : ℕ) → IsTrue (writes body written) → given_to (ports written) steps ≡ process.state.sent written)
-        by [] is here named =
-            ( name
-            , same_dir (ports name) dir (sym (awaits_wants program node (ports name) dir (subst (λ (n : Node). Awaits program n (ports name)) (sym here) ran.awaits)) ∙ wanted)
-            , waits
-            , λ written written_is. sym (sent_is written written_is ∙ ap (λ (l : List Act). given_to (ports written) steps ++ sent_under written l) is ∙ append-nil (given_to (ports written) steps)) )
+        by [] is here named = (
+          name,
+          same_dir (ports name) dir (sym (awaits_wants program node (ports name) dir (subst (λ (n : Node). Awaits program n (ports name)) (sym here) ran.awaits)) ∙ wanted),
+          waits,
+          λ written written_is. sym (sent_is written written_is ∙ ap (λ (l : List Act). given_to (ports written) steps ++ sent_under written l) is ∙ append-nil (given_to (ports written) steps)),
+        )
         by (Alone ∷ acts) is more named = absurd (local_wants program node dir more.0 wanted)
         by (Reads other value ∷ acts) is more named = absurd (no_reads other value acts is named.0)
         by (Sends other value ∷ acts) is more named = absurd (true≢false (sym wanted ∙ writing_wants program node value (ports other) dir more.0))
@@ -220,17 +222,20 @@ module _ (program : List MarkedInstr) (body : Block ℕ) (ports : Ports) (distin
         by (Reads other read ∷ acts) is more named = absurd (empty (sym (awaits_offers program node (ports other) dir more.0) ∙ offered))
         by (Sends other sent ∷ acts) is more named =
             let gives = gave_value (is_same_dir (ports other) dir) sent value (sym (writing_offers program node sent (ports other) dir more.0) ∙ offered) in
-            let port = same_dir (ports other) dir gives.0 in
-            ( other
-            , port
-            , named.0
-            , ( sent_under other acts
-              , append_assoc (given_to dir steps) (value ∷ []) (sent_under other acts)
-                ∙ ap (λ (d : Dir). given_to d steps ++ value ∷ sent_under other acts) (sym port)
-                ∙ ap (λ (v : ℤ). given_to (ports other) steps ++ v ∷ sent_under other acts) (sym gives.1)
-                ∙ ap (λ (b : Bool). given_to (ports other) steps ++ (cond b (sent ∷ []) [] ++ sent_under other acts)) (sym (eq-eqb other other refl))
-                ∙ ap (λ (l : List Act). given_to (ports other) steps ++ sent_under other l) (sym is)
-                ∙ sym (sent_is other named.0) ) )
+            let port = same_dir (ports other) dir gives.0 in (
+              other,
+              port,
+              named.0,
+              (
+                sent_under other acts,
+                append_assoc (given_to dir steps) (value ∷ []) (sent_under other acts)
+                    ∙ ap (λ (d : Dir). given_to d steps ++ value ∷ sent_under other acts) (sym port)
+                    ∙ ap (λ (v : ℤ). given_to (ports other) steps ++ v ∷ sent_under other acts) (sym gives.1)
+                    ∙ ap (λ (b : Bool). given_to (ports other) steps ++ (cond b (sent ∷ []) [] ++ sent_under other acts)) (sym (eq-eqb other other refl))
+                    ∙ ap (λ (l : List Act). given_to (ports other) steps ++ sent_under other l) (sym is)
+                    ∙ sym (sent_is other named.0),
+              ),
+            )
 
     pub behaves_after : BehavesAfter program body ports process steps node
     behaves_after = record {
@@ -251,8 +256,8 @@ pub process_behaves : (body : Block ℕ) (ports : Ports) → AreDistinct ports b
 process_behaves body ports distinct comes_to_wait = record {
   some = let first = comes_to_wait (λ name. []) (λ name. All-nil IsValue) in let waits = first.1 first.0 (omega arith) in has_instr (program_of ports body) body ports distinct holds all (λ name. []) first.0 waits.0 waits.1;
   after = λ steps run.
-    let first = comes_to_wait (taken_under ports body steps) (under_values (program_of ports body) ports body steps run) in
-    (first.0, λ fuel enough. let waits = first.1 fuel enough in behaves_after (program_of ports body) body ports distinct holds all steps run fuel waits.0 waits.1);
+      let first = comes_to_wait (taken_under ports body steps) (under_values (program_of ports body) ports body steps run) in
+      (first.0, λ fuel enough. let waits = first.1 fuel enough in behaves_after (program_of ports body) body ports distinct holds all steps run fuel waits.0 waits.1);
 }
   where
     all : block_lines body ≡ length (program_of ports body)

@@ -153,7 +153,7 @@ module _ (program : List MarkedInstr) (ports : Ports) (names : Names) where
         record {
           into = λ x y is. goes_at program ports names 3 (N top x y) (top + 4 + 1) (top + 5) x y (omega arith) (over_y program ports names kind top (top + 4) x y first second (subst (λ (p : ℕ). instr_at program p ≡ Some instr.Swp) at_four fifth) is);
           out = λ x y is. goes_then program ports names 3 1 (N top x y) (N (top + 3) x y) (N (top + 6 + lines) x y) (past_y program ports names kind top (top + 4) x y first second third is)
-            (goes_to program ports names Always (top + 3) (top + 6 + lines) x y (subst (λ (p : ℕ). instr_at program p ≡ Some (jump_to (length program) Always (top + 6 + lines))) at_three fourth) refl);
+              (goes_to program ports names Always (top + 3) (top + 6 + lines) x y (subst (λ (p : ℕ). instr_at program p ≡ Some (jump_to (length program) Always (top + 6 + lines))) at_three fourth) refl);
           stands = both.0;
           back = λ x y. goes_to program ports names Always (top + 5 + lines) top x y both.1.0 refl;
         }

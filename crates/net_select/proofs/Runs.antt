@@ -188,4 +188,3 @@ module _ (program : List MarkedInstr) (ports : Ports) where
 
       writing : after_step program (raw place x y) (Took (ports name) value) ≡ writes value (One (ports other)) (raw place x y)
       writing = rw found refl
-

@@ -123,7 +123,7 @@ module _ (program : List MarkedInstr) (ports : Ports) (names : Names) where
       (record {
         acts = Alone ∷ Alone ∷ [];
         run = run_then program ports (Alone ∷ []) (Alone ∷ []) (node_at program ports place state.x state.y) (node_at program ports (place + 1) state.y state.x) (node_at program ports (place + 2) state.y state.y) (swapped place state.x state.y first)
-          (at_place (node_at program ports (place + 1) state.y state.x) (Alone ∷ []) (place + 1 + 1) (place + 2) state.y state.y (omega arith) (alone program ports instr.Sav (place + 1) state.y state.x state.y state.y second refl refl));
+            (at_place (node_at program ports (place + 1) state.y state.x) (Alone ∷ []) (place + 1 + 1) (place + 2) state.y state.y (omega arith) (alone program ports instr.Sav (place + 1) state.y state.x state.y state.y second refl refl));
         unread = λ name. refl;
         sent = λ name. sym (append-nil (state.sent name));
         local = omega arith;

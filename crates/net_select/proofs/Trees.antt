@@ -132,10 +132,10 @@ module _ (program : List MarkedInstr) (ports : Ports) (names : Names) where
       let there : inside + (lines + length (on var (instr.Nop ∷ []))) ≡ inside + lines + length (on var (instr.Nop ∷ [])) = omega arith in
       loops program ports names top end (λ after. is_positive (value_in var after)) (λ after. and_then (does after) (λ done. ended Finished (becomes var (value_in var done -ℤ pos 1) done)))
       (λ s is. around program ports names in_steps (less_steps + 1) (N top s.x s.y) (N inside s.x s.y) (inside + lines) top s (does (stepped s)) (λ done. becomes var (value_in var done -ℤ pos 1) done) few_in
-        (goes.into s.x s.y (ap (jumps IfPositive) (value_is var (stepped s)) ∙ positive_tells (value_in var (stepped s)) true is)) (follows inside both.0 (stepped s)) unread sent steps
-        (λ after. let done = becomes var (value_in var after -ℤ pos 1) after in
-          goes_then program ports names less_steps 1 (N (inside + lines) after.x after.y) (N (inside + lines + length (on var (instr.Nop ∷ []))) done.x done.y) (N top done.x done.y) (less (inside + lines) both.1 after)
-          (subst (λ (p : ℕ). Goes program ports names 1 (N p done.x done.y) (N top done.x done.y)) there (goes.back done.x done.y))))
+      (goes.into s.x s.y (ap (jumps IfPositive) (value_is var (stepped s)) ∙ positive_tells (value_in var (stepped s)) true is)) (follows inside both.0 (stepped s)) unread sent steps
+      (λ after. let done = becomes var (value_in var after -ℤ pos 1) after in
+      goes_then program ports names less_steps 1 (N (inside + lines) after.x after.y) (N (inside + lines + length (on var (instr.Nop ∷ []))) done.x done.y) (N top done.x done.y) (less (inside + lines) both.1 after)
+      (subst (λ (p : ℕ). Goes program ports names 1 (N p done.x done.y) (N top done.x done.y)) there (goes.back done.x done.y))))
       (λ s is. goes_only program ports names out_steps (N top s.x s.y) end s few_out (goes.out s.x s.y (ap (jumps IfPositive) (value_is var (stepped s)) ∙ positive_tells (value_in var (stepped s)) false is)))
       state.fuel state
 
@@ -151,7 +151,7 @@ module _ (program : List MarkedInstr) (ports : Ports) (names : Names) where
       follows_at _ (top + 6 + (lines + 3)) _ state _ (omega arith)
       (count_does Y body lines top (top + 6 + (lines + 3)) (top + 5) 3 4 3 does has (enters_y program ports names IfPositive (with_one_less Y body) (lines + 3) (one_less_lines Y body lines has) top stands) (omega arith) (omega arith) follows
       (λ place less after. on_y program ports names (instr.Sub (from.Number (pos 1))) place after.x after.y (sat (after.y -ℤ pos 1)) (Alone ∷ []) less
-        (λ found. alone program ports (instr.Sub (from.Number (pos 1))) (place + 1) after.y after.x (sat (after.y -ℤ pos 1)) after.x found refl refl))
+      (λ found. alone program ports (instr.Sub (from.Number (pos 1))) (place + 1) after.y after.x (sat (after.y -ℤ pos 1)) after.x found refl refl))
       (λ after name. refl) (λ after name. refl) (λ after. refl) state)
 
   -- ---- statements and blocks
@@ -185,7 +185,7 @@ module _ (program : List MarkedInstr) (ports : Ports) (names : Names) where
         let writes = each_both names.Written (writes_in first) (writes_in second) deep in
         begun program ports names (N place state.x state.y) (place + statement_lines (If var test first second)) state (λ after. cond (passes test (value_in var after)) (exec first after) (exec second after))
         (if_does (jumps_where_held test) (jump_of test) var (passes test (value_in var (stepped state))) first second place state (same_value var ∙ jump_tells test (value_in var (stepped state)) (passes test (value_in var (stepped state))) refl)
-          (block_does first reads.0 writes.0) (block_does second reads.1 writes.1) holds)
+        (block_does first reads.0 writes.0) (block_does second reads.1 writes.1) holds)
       where
         same_value : (v : Var) → jumps (jump_of test) (value_in v state) ≡ jumps (jump_of test) (value_in v (stepped state))
         same_value X = refl
@@ -193,7 +193,7 @@ module _ (program : List MarkedInstr) (ports : Ports) (names : Names) where
     statement_does (While var test body) read inside written deep place holds state =
         follows_at _ (place + (loop_frame (jumps_where_held test) var + block_lines body)) _ state _ (frame_is var)
         (while_at (jumps_where_held test) (jump_of test) var (block_code ports (length program) body) (block_lines body) place (λ after. passes test (value_in var after)) (exec body) (block_has ports (length program) body)
-          (λ s b is. ap (jumps (jump_of test)) (value_is var s) ∙ jump_tells test (value_in var s) b is) (block_does body inside deep) holds state)
+        (λ s b is. ap (jumps (jump_of test)) (value_is var s) ∙ jump_tells test (value_in var s) b is) (block_does body inside deep) holds state)
       where
         frame_is : (v : Var) → place + (loop_frame (jumps_where_held test) v + block_lines body) ≡ place + (while_frame v test + block_lines body)
         frame_is X = refl
@@ -212,7 +212,7 @@ module _ (program : List MarkedInstr) (ports : Ports) (names : Names) where
         let both = behind program ports names (statement_code ports (length program) statement) (statement_lines statement) (block_code ports (length program) rest (place + statement_lines statement)) place (statement_has ports (length program) statement) holds in
         follows_at _ (place + statement_lines statement + block_lines rest) _ state _ (omega arith)
         (then program ports names (N place state.x state.y) (place + statement_lines statement) (place + statement_lines statement + block_lines rest) state (exec_statement statement state) (exec rest)
-          (statement_does statement read_first.0 read_rest.0 written_first.0 written_rest.0 place both.0 state) (λ after. block_does rest read_rest.1 written_rest.1 (place + statement_lines statement) both.1 after))
+        (statement_does statement read_first.0 read_rest.0 written_first.0 written_rest.0 place both.0 state) (λ after. block_does rest read_rest.1 written_rest.1 (place + statement_lines statement) both.1 after))
 
   -- ---- rounds
 
@@ -232,6 +232,6 @@ module _ (program : List MarkedInstr) (ports : Ports) (names : Names) where
   rounds_do body reads writes holds all (suc more) state =
       then program ports names (N 0 state.x state.y) 0 0 state (round body state) (rounds_within more body)
       (begun program ports names (N 0 state.x state.y) 0 state (exec body)
-        (between program ports names 0 0 (N 0 state.x state.y) (N 0 state.x state.y) (0 + block_lines body) 0 state (exec body (stepped state)) (omega arith) refl (block_does body reads writes 0 holds (stepped state))
-          (λ x y. ap (λ (p : ℕ). ready_at p x y) (wraps (0 + block_lines body) (omega (arith, all))))))
+      (between program ports names 0 0 (N 0 state.x state.y) (N 0 state.x state.y) (0 + block_lines body) 0 state (exec body (stepped state)) (omega arith) refl (block_does body reads writes 0 holds (stepped state))
+      (λ x y. ap (λ (p : ℕ). ready_at p x y) (wraps (0 + block_lines body) (omega (arith, all))))))
       (rounds_do body reads writes holds all more)

@@ -74,7 +74,8 @@ command_of (word ∷ net ∷ save ∷ []) = if bytes_eq word (codes "compile") t
 command_of (word ∷ save ∷ spec ∷ seed ∷ last ∷ []) =
     if bytes_eq word (codes "run") then run_with save spec (seed_of seed) (limit_of last)
     else (if bytes_eq word (codes "replay") then replay_with save spec (seed_of seed) last
-    else (if bytes_eq word (codes "debug") then debug_with save spec (seed_of seed) last else grade_of (word ∷ save ∷ spec ∷ seed ∷ last ∷ [])))
+    else (if bytes_eq word (codes "debug") then debug_with save spec (seed_of seed) last
+    else grade_of (word ∷ save ∷ spec ∷ seed ∷ last ∷ [])))
 command_of (word ∷ save ∷ spec ∷ seed ∷ order_seed ∷ limit ∷ []) = if bytes_eq word (codes "order") then order_with save spec (seed_of seed) (seed_of order_seed) (limit_of limit) else grade_of (word ∷ save ∷ spec ∷ seed ∷ order_seed ∷ limit ∷ [])
 command_of words = grade_of words
 
@@ -111,7 +112,7 @@ pub record IsCompiled (texts : List (List ℕ)) (bytes : List ℕ) : Type 0 wher
   pub reads_back : save_of bytes net.tiles ≡ Ok (compiled net)
   pub carries : Carries (compiled net) net
 
--- ---- run, order, replay, grade and debug
+-- ---- run, order, replay, debug and grade
 
 -- two texts are fetched
 abbrev pub RunsTo : ℕ → List (List ℕ) → Answer → Type 0

@@ -1,4 +1,4 @@
--- What `run`, `order`, `replay`, `grade` and `debug` come to over the texts that they fetch: the first refusal, or the report of what the grid did.
+-- What `run`, `order`, `replay`, `debug` and `grade` come to over the texts that they fetch: the first refusal, or the report of what the grid did.
 use Rattle.std.specs.Prelude.{ℕ, zero, suc, ◌+◌, List, [], ◌∷◌, ◌++◌, length, Option, Some, None, unwrap_or, Result, Ok, Err}
 use Rattle.tis_asm.specs.declared.error.AsmError.{AsmError}
 use Rattle.tis_asm.specs.declared.error.AsmError.TheVariants as code
@@ -24,10 +24,10 @@ use Rattle.tis_grade.specs.declared.cases.Case.{Case}
 use Rattle.tis_grade.specs.declared.cases.Failed.{Failed}
 use Rattle.tis_grade.specs.Reports.{graded}
 use Rattle.tis_report.specs.Reports.{ended_text, replayed_text, not_enabled_text}
-use Rattle.tis_cli.specs.declared.status.Refusal.TheVariants.{Save, Grid as Grid_text, Events, Script}
-use Rattle.tis_cli.specs.Answers.{Completion, Answer, Refuses, Makes, AllDone, Limited, Stopped, Failed as Fails}
 use Rattle.tis_debug.specs.declared.script.Action.{Action}
 use Rattle.tis_debug.specs.Scripts.{script_of, debug_text}
+use Rattle.tis_cli.specs.declared.status.Refusal.TheVariants.{Save, Grid as Grid_text, Events, Script}
+use Rattle.tis_cli.specs.Answers.{Completion, Answer, Refuses, Makes, AllDone, Limited, Stopped, Failed as Fails}
 
 -- ---- refusals, as they are held
 

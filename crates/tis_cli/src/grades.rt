@@ -1,5 +1,5 @@
 //! A save over a specification, graded for several seeds.
-ghost use Rattle.std.specs.Prelude.{◌≡◌, [], ◌∷◌, List, Option, ℕ};
+ghost use Rattle.std.specs.Prelude.{◌≡◌, [], ◌∷◌, ◌++◌, List, Option, ℕ, OnOk};
 ghost use Rattle.tis_grade.specs.declared.cases.Case.{Case as SomeCase};
 ghost use Rattle.tis_cli.specs.Answers.{Answer};
 ghost use Rattle.tis_cli.specs.Commands.{kept_seeds};
@@ -10,7 +10,16 @@ use crate::command::SEEDS;
 use crate::runs::{Run, open_grid};
 use crate::status::Status;
 use std::alloc::Global;
+use tis_base::NoMemory;
 use tis_grade::{Case, Failed, grade_all};
+
+// One more case.
+fn push_case(cases: &mut Vec<Case>, case: Case) -> Result<(), NoMemory>
+    ensures { OnOk result (cases.new.items ≡ cases.old.items ++ case ∷ []) }
+{
+    cases.push(case)?;
+    Ok(())
+}
 
 // Reads the save and the specification for a seed, where there is one.
 fn open_case(
@@ -22,10 +31,11 @@ fn open_case(
 ) -> Result<(), Status>
     ensures { (seeds : List (Option ℕ)) (next : List SomeCase → Answer) → Continues result (over_cases save.now spec.now cases.old.items (kept_seeds (seed ∷ seeds)) next) (over_cases save.now spec.now cases.new.items (kept_seeds seeds) next) }
 {
-    if let Some(seed) = seed {
-        let grid = open_grid(alloc, save, spec)?;
-        cases.push(Case { seed, grid })?;
-    }
+    let Some(seed) = seed else {
+        return Ok(());
+    };
+    let grid = open_grid(alloc, save, spec)?;
+    push_case(cases, Case { seed, grid })?;
     Ok(())
 }
 

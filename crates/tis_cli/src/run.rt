@@ -236,7 +236,8 @@ fn perform<S: Store, K: Sink>(alloc: Global, command: Command, store: &mut S, ou
 /// ORDERSEED; `replay SAVE SPEC SEED EVENTS`
 /// runs it by the events of a text; `grade SAVE SPEC LIMIT SEED [SEED ..]` says whether it passes for each of one to eight
 /// seeds; `debug SAVE SPEC SEED SCRIPT` does what the lines of a script say, each a command of the debugger. Other words
-/// are no command. The words are looked at first, then the names, then the texts in the order in which a command reads them, then its work;
+/// are no command. The words are looked at
+/// first, then the names, then the texts in the order in which a command reads them, then its work;
 /// what it makes is kept, or put as a report, at the end.
 pub fn tool<S: Store, K: Sink>(
     alloc: Global,

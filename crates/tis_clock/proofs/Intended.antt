@@ -1,6 +1,6 @@
 -- What a tile does, told by what it would do.
-use Rattle.std.proofs.Common.{◌≡◌, ℕ, ◌<◌, ◌≤◌, ◌*◌, true, false, cond, List, [], ◌∷◌, ◌++◌, length, Option, Some, None, refl, sym, ap, ◌∙◌, arith}
-use Rattle.std.specs.Prelude.{Bool, ◌&&◌, not, nat_lt, flat_map, unwrap_or, option_map}
+use Rattle.std.proofs.Common.{◌≡◌, ℕ, ◌<◌, true, false, cond, [], ◌∷◌, length, Option, Some, None, refl, sym, ap, ◌∙◌, arith}
+use Rattle.std.specs.Prelude.{Bool, IsTrue, ◌&&◌, not, nat_lt, flat_map, unwrap_or, option_map}
 use Rattle.std.specs.List.{find, range_with_len}
 use Rattle.std.specs.Option.{option_or}
 use Rattle.std.proofs.lemmas.Bool.{le-ltb}
@@ -9,7 +9,7 @@ use Rattle.tis_base.specs.declared.tiles.Dir.{Dir}
 use Rattle.tis_base.specs.declared.tiles.Dir.TheVariants.{Left, Right, Up, Down}
 use Rattle.tis_asm.specs.Node.{is_same_dir}
 use Rattle.tis_grid.specs.declared.event.Event.{Event}
-use Rattle.tis_grid.specs.declared.event.Event.TheVariants.{Local, Meet, In, Out, Push, Pop}
+use Rattle.tis_grid.specs.declared.event.Event.TheVariants.{Local, Meet, In, Push, Pop}
 use Rattle.tis_grid.specs.State.{Grid, IsGrid, State, left_at}
 use Rattle.tis_grid.specs.Events.{next_tile, is_giving, is_waiting, has_value, has_room, is_enabled}
 use Rattle.tis_grid.proofs.Places.{next_back, next_up, some_columns}
@@ -21,6 +21,10 @@ use Rattle.tis_clock.proofs.Below.{nothing_below}
 and_false : (a : Bool) → (a && false) ≡ false
 and_false true = refl
 and_false false = refl
+
+-- what is false isn't true
+pub not_true : (b : Bool) → b ≡ false → IsTrue b → ⊥
+not_true b fails holds = let same : true ≡ false = sym holds ∙ fails in cc
 
 or_none : {X : Type 0} (option : Option X) → option_or option None ≡ option
 or_none None = refl
@@ -194,10 +198,6 @@ module _ (grid : Grid) (is_grid : IsGrid grid) (now : State) (was : ℕ → Bool
       takes_none none =
           sym (in_order ∙ ap (λ (o : Option Event). one_of_four o (way Right) (way Up) (way Down)) (none_taken Left (none Left)) ∙ ap (λ (o : Option Event). one_of_four None o (way Up) (way Down)) (none_taken Right (none Right)) ∙ ap (λ (o : Option Event). one_of_four None None o (way Down)) (none_taken Up (none Up)) ∙ ap (λ (o : Option Event). one_of_four None None None o) (none_taken Down (none Down)))
           ∙ takes_any
-
-  -- it was writing
-  pub waits_its_turn : was tile ≡ true → None ≡ reads_or_steps grid was now tile
-  waits_its_turn writes = sym (ap (λ (b : Bool). cond (not b) (first_way grid was now (ways_of_ready grid tile)) None) writes)
 
   -- ---- the turn of a tile that was writing
 

@@ -1,33 +1,15 @@
 //! A grid, cycle by cycle.
-ghost use Rattle.std.specs.Prelude.{◌≡◌, ◌≤◌, ◌<◌, ◌++◌, [], length, IfSome, IfOk, IfErr, OnOk};
+ghost use Rattle.std.specs.Prelude.{◌≡◌, ◌≤◌, ◌++◌, [], length, IfOk, IfErr, OnOk};
 ghost use Rattle.tis_grid.specs.Orders.{Fits};
-ghost use Rattle.tis_grid.specs.Events.{IsEnabled};
-ghost use Rattle.tis_grid.specs.HeldState.{HasRoom, HasRoomEach};
+ghost use Rattle.tis_grid.specs.HeldState.{HasRoomEach};
 ghost use Rattle.tis_clock.specs.Cycle.{reads_or_steps, gives_out, state_after, in_turn, all_tiles, cycle_events, after_cycle};
 ghost use Rattle.tis_clock.specs.Runs.{EndsAs, LowersBy, IsAfterSome};
-ghost use Rattle.tis_clock.specs.Turns.{kept_at, acts, room_behind, HasRoomForOne};
+ghost use Rattle.tis_clock.specs.Turns.{kept_at, HasRoomForOne};
 
 use crate::trace::Trace;
-use crate::turns::{TILES, give_out, read_or_step, writers};
+use crate::turns::{TILES, act, give_out, read_or_step, writers};
 use tis_base::{NoMemory, Tile};
-use tis_grid::{Ended, Event, Grid, State};
-
-// Applies what a tile chose, where it chose anything, and writes it down.
-fn act(grid: &Grid, state: &mut State, trace: &mut Trace, chosen: Option<Event>)
-    requires fits { Fits grid.now state.old.state }
-    requires enabled { IfSome chosen (λ event. IsEnabled grid.now state.old.state event) }
-    requires room { IfSome chosen (λ event. HasRoom state.old.spares event) }
-    requires few { length trace.old < 48 }
-    ensures trace { trace.new ≡ trace.old ++ acts chosen }
-    ensures state { state.new.state ≡ state_after grid.now state.old.state (acts chosen) }
-    ensures spares { state.new.spares ≡ room_behind state.old.spares chosen }
-    ensures fits { Fits grid.now state.new.state }
-{
-    if let Some(event) = chosen {
-        grid.apply(state, event);
-        trace.push(event);
-    }
-}
+use tis_grid::{Ended, Grid, State};
 
 // How many tiles a grid has.
 fn tiles_of(grid: &Grid) -> u8
@@ -50,7 +32,7 @@ fn first_half(grid: &Grid, writing: &[bool; TILES], state: &mut State, trace: &m
 {
     for number in 0..tiles_of(grid) {
         let chosen = read_or_step(grid, writing, state, Tile { number });
-        act(grid, state, trace, chosen);
+        trace.add(chosen);
     }
 }
 
@@ -66,7 +48,8 @@ fn second_half(grid: &Grid, writing: &[bool; TILES], state: &mut State, trace: &
 {
     for number in 0..tiles_of(grid) {
         let chosen = give_out(grid, writing, state, Tile { number });
-        act(grid, state, trace, chosen);
+        act(grid, state, chosen);
+        trace.add(chosen);
     }
 }
 

@@ -1,5 +1,6 @@
 //! The events of a cycle.
 ghost use Rattle.std.specs.Prelude.{◌≡◌, ◌<◌, [], ◌∷◌, ◌++◌, length, slice_get, Some};
+ghost use Rattle.tis_clock.specs.Turns.{acts};
 
 use std::marker::Model;
 use tis_base::Tile;
@@ -38,6 +39,7 @@ impl Trace {
     }
 
     /// How many events there are.
+    #[inline(always)]
     pub fn len(&self) -> u32
         ensures { result ≡ length self.now }
     {
@@ -45,6 +47,7 @@ impl Trace {
     }
 
     /// The event with a number from 0 on.
+    #[inline(always)]
     pub fn at(&self, index: u32) -> Event
         requires { index < length self.now }
         ensures { slice_get self.now index ≡ Some result }
@@ -53,6 +56,7 @@ impl Trace {
     }
 
     /// Leaves no event.
+    #[inline(always)]
     pub fn clear(&mut self)
         ensures { self.new ≡ [] }
     {
@@ -60,11 +64,23 @@ impl Trace {
     }
 
     /// One more event at the end.
+    #[inline(always)]
     pub fn push(&mut self, event: Event)
         requires { length self.old < 48 }
         ensures { self.new ≡ self.old ++ event ∷ [] }
     {
         self.events[self.count as usize] = event;
         self.count += 1;
+    }
+
+    // One more event at the end, where there is one.
+    #[inline(always)]
+    pub(crate) fn add(&mut self, event: Option<Event>)
+        requires { length self.old < 48 }
+        ensures { self.new ≡ self.old ++ acts event }
+    {
+        if let Some(event) = event {
+            self.push(event);
+        }
     }
 }

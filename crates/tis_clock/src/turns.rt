@@ -1,14 +1,18 @@
 //! What a tile does at its turn in a cycle.
-ghost use Rattle.std.specs.Prelude.{◌≡◌, ◌<◌, ◌∷◌, [], length, flat_map, IsTrue, Some, None, ◌&&◌};
+ghost use Rattle.std.specs.Prelude.{◌≡◌, ◌<◌, ◌∷◌, [], length, flat_map, IfSome, IsTrue, Some, None, false, ◌&&◌};
 ghost use Rattle.tis_base.specs.declared.tiles.Dir.{Dir as AnyDir};
 ghost use Rattle.tis_base.specs.declared.tiles.Dir.TheVariants.{Down};
 ghost use Rattle.std.specs.List.{find};
 ghost use Rattle.tis_base.specs.Tiles.{opposite as other_side};
 ghost use Rattle.tis_node.specs.NodeView.{node_view};
 ghost use Rattle.tis_grid.specs.Orders.{Fits};
-ghost use Rattle.tis_grid.specs.Events.{is_enabled, is_giving, is_waiting, next_tile};
+ghost use Rattle.tis_node.specs.Intents.{takes_from};
+ghost use Rattle.tis_grid.specs.declared.event.Event.TheVariants as event;
+ghost use Rattle.tis_grid.specs.Events.{IsEnabled, is_enabled, is_giving, is_waiting, next_tile};
+ghost use Rattle.tis_grid.specs.HeldState.{HasRoom};
+ghost use Rattle.tis_clock.specs.Cycle.{state_after};
 ghost use Rattle.tis_clock.specs.Cycle as cycle;
-ghost use Rattle.tis_clock.specs.Turns.{kept_at, Keeps};
+ghost use Rattle.tis_clock.specs.Turns.{kept_at, acts, room_behind, Keeps};
 
 use tis_base::{Dir, Tile};
 use tis_grid::{Event, Grid, State};
@@ -56,7 +60,7 @@ pub(crate) fn writers(grid: &Grid, state: &State) -> [bool; TILES]
 }
 
 // Whether a tile was writing when the cycle began.
-#[inline]
+#[inline(always)]
 fn was_writing(writing: &[bool; TILES], tile: Tile) -> bool
     ensures { result ≡ kept_at writing.now tile.number }
 {
@@ -67,14 +71,8 @@ fn was_writing(writing: &[bool; TILES], tile: Tile) -> bool
 }
 
 // Whether a tile gives a value to a port that it was writing already when the cycle began.
-#[inline]
-fn gives_old(
-    grid: &Grid,
-    writing: &[bool; TILES],
-    state: &State,
-    giver: Tile,
-    dir: Dir,
-) -> bool
+#[inline(always)]
+fn gives_old(grid: &Grid, writing: &[bool; TILES], state: &State, giver: Tile, dir: Dir) -> bool
     requires fits { Fits grid.now state.now.state }
     ensures { result ≡ (kept_at writing.now giver.number && is_giving grid.now state.now.state giver.number dir) }
 {
@@ -86,7 +84,7 @@ fn gives_old(
 
 // What a tile that waits takes from the next one: what that one was giving when the cycle began, or the newest value
 // of a stack.
-#[inline]
+#[inline(always)]
 fn take_from_next(
     grid: &Grid,
     writing: &[bool; TILES],
@@ -113,7 +111,7 @@ fn take_from_next(
 }
 
 // What a tile that waits takes from beyond the grid: above the top row the next value of an input.
-#[inline]
+#[inline(always)]
 fn take_from_beyond(
     grid: &Grid,
     writing: &[bool; TILES],
@@ -141,7 +139,7 @@ fn take_from_beyond(
 }
 
 // What a tile that waits takes from a direction.
-#[inline]
+#[inline(always)]
 fn take_from(
     grid: &Grid,
     writing: &[bool; TILES],
@@ -182,38 +180,83 @@ fn take_any(
     }
 }
 
-/// What a tile does that was ready when the cycle began.
-#[inline]
-pub(crate) fn read_or_step(
+// What a tile takes that was ready when the cycle began, and whose instruction needs a port.
+#[inline(always)]
+fn take(
     grid: &Grid,
     writing: &[bool; TILES],
     state: &State,
     tile: Tile,
+    intent: Intent,
 ) -> Option<Event>
     requires fits { Fits grid.now state.now.state }
     requires there { tile.number < length grid.now.puzzle.tiles.kinds }
+    requires ready { kept_at writing.now tile.number ≡ false }
+    requires local { is_enabled grid.now state.now.state (event.Local tile) ≡ false }
+    requires takes { (dir : AnyDir) → is_waiting grid.now state.now.state tile.number dir ≡ takes_from intent dir }
     ensures { result ≡ cycle.reads_or_steps grid.now (kept_at writing.now) state.now.state tile.number }
 {
-    if was_writing(writing, tile) {
-        return None;
-    }
     // The call tells the proof that this is a grid.
     grid.puzzle();
-    match grid.intent(state, tile) {
-        Intent::Local => Some(Event::Local(tile)),
+    match intent {
         Intent::Takes(dir) => take_from(grid, writing, state, tile, dir),
         Intent::TakesAny => {
             let dirs = [Dir::Left, Dir::Right, Dir::Up, Dir::Down];
             take_any(grid, writing, state, tile, &dirs)
         }
         Intent::Nothing => None,
+        Intent::Local => None,
         Intent::Gives(_) => None,
         Intent::GivesAny => None,
     }
 }
 
+// Applies what a tile chose, where it chose anything.
+#[inline(always)]
+pub(crate) fn act(grid: &Grid, state: &mut State, chosen: Option<Event>)
+    requires fits { Fits grid.now state.old.state }
+    requires enabled { IfSome chosen (λ event. IsEnabled grid.now state.old.state event) }
+    requires room { IfSome chosen (λ event. HasRoom state.old.spares event) }
+    ensures state { state.new.state ≡ state_after grid.now state.old.state (acts chosen) }
+    ensures spares { state.new.spares ≡ room_behind state.old.spares chosen }
+    ensures fits { Fits grid.now state.new.state }
+{
+    if let Some(event) = chosen {
+        grid.apply(state, event);
+    }
+}
+
+/// What a tile does that was ready when the cycle began.
+#[inline(always)]
+pub(crate) fn read_or_step(
+    grid: &Grid,
+    writing: &[bool; TILES],
+    state: &mut State,
+    tile: Tile,
+) -> Option<Event>
+    requires fits { Fits grid.now state.old.state }
+    requires there { tile.number < length grid.now.puzzle.tiles.kinds }
+    ensures chosen { result ≡ cycle.reads_or_steps grid.now (kept_at writing.now) state.old.state tile.number }
+    ensures state { state.new.state ≡ state_after grid.now state.old.state (acts result) }
+    ensures spares { state.new.spares ≡ state.old.spares }
+    ensures fits { Fits grid.now state.new.state }
+{
+    if was_writing(writing, tile) {
+        return None;
+    }
+    // The call tells the proof that this is a grid.
+    grid.puzzle();
+    let intent = grid.advance(state, tile);
+    if intent.is_local() {
+        return Some(Event::Local(tile));
+    }
+    let taken = take(grid, writing, state, tile, intent);
+    act(grid, state, taken);
+    taken
+}
+
 // The output whose column ends in this tile takes its value.
-#[inline]
+#[inline(always)]
 fn give_below(grid: &Grid, state: &State, tile: Tile) -> Option<Event>
     requires fits { Fits grid.now state.now.state }
     requires there { tile.number < length grid.now.puzzle.tiles.kinds }
@@ -233,7 +276,7 @@ fn give_below(grid: &Grid, state: &State, tile: Tile) -> Option<Event>
 }
 
 // What a tile gives in a direction without a reader.
-#[inline]
+#[inline(always)]
 fn give_toward(grid: &Grid, state: &State, tile: Tile, dir: Dir) -> Option<Event>
     requires fits { Fits grid.now state.now.state }
     requires there { tile.number < length grid.now.puzzle.tiles.kinds }
@@ -265,7 +308,7 @@ fn give_any(grid: &Grid, state: &State, tile: Tile, dirs: &[Dir]) -> Option<Even
 }
 
 /// What a tile gives that was writing when the cycle began.
-#[inline]
+#[inline(always)]
 pub(crate) fn give_out(
     grid: &Grid,
     writing: &[bool; TILES],

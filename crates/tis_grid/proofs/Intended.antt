@@ -11,7 +11,7 @@ use Rattle.tis_devices.specs.Stack.{ROOM}
 use Rattle.tis_grid.specs.declared.event.Event.{Event}
 use Rattle.tis_grid.specs.declared.event.Event.TheVariants.{Local, Meet, Push, Pop}
 use Rattle.tis_grid.specs.State.{Grid, State, node_at, stack_at}
-use Rattle.tis_grid.specs.Events.{program_of, next_tile, is_compute_at, is_waiting, is_giving, has_room, has_value, is_enabled}
+use Rattle.tis_grid.specs.Events.{program_of, next_tile, is_waiting, is_giving, has_room, has_value, is_enabled}
 use Rattle.tis_grid.specs.Choices.{events_towards, events_at, those_enabled}
 use Rattle.tis_grid.proofs.Choosing.{those-append, those-empty}
 

@@ -3,19 +3,22 @@ ghost use Rattle.std.specs.Prelude.{◌≡◌, ◌≢◌, ◌<◌, IsTrue, IsSom
 ghost use Rattle.tis_asm.specs.Node as table;
 ghost use Rattle.tis_grid.specs.State as at;
 ghost use Rattle.tis_grid.specs.declared.event.Event.TheVariants as events;
-ghost use Rattle.tis_grid.specs.Events.{IsEnabled, is_enabled, after_event, program_of, offered, reached, took, given, next_tile};
+ghost use Rattle.tis_grid.specs.Events.{IsEnabled, is_enabled, is_waiting, is_giving, after_event, program_of, offered, reached, took, given, next_tile};
 ghost use Rattle.tis_grid.specs.Orders.{Fits};
+ghost use Rattle.tis_base.specs.declared.tiles.Dir.{Dir as AnyDir};
+ghost use Rattle.tis_node.specs.Intents.{is_local, takes_from, gives_to};
 ghost use Rattle.tis_grid.specs.HeldState.{HasRoom, spares_after, spare_at};
 
 use crate::event::Event;
 use crate::grid::{Grid, opposite};
 use crate::state::State;
 use tis_base::{Dir, Tile, Value};
+use tis_node::Intent;
 
 impl Grid {
     /// Applies an event that is enabled. One that gives to an output uses up one of its spare places; it takes no
     /// memory.
-    #[inline]
+    #[inline(always)]
     pub fn apply(&self, state: &mut State, event: Event)
         requires fits { Fits self.now state.old.state }
         requires enabled { IsEnabled self.now state.old.state event }
@@ -29,8 +32,36 @@ impl Grid {
         self.act(state, event);
     }
 
+    /// Does a tile's instruction, where it needs no port, and tells what its node would have done: [`Grid::intent`], and
+    /// [`Grid::apply`] of a local event, in one look.
+    #[inline(always)]
+    pub fn advance(&self, state: &mut State, tile: Tile) -> Intent
+        requires fits { Fits self.now state.old.state }
+        requires there { tile.number < length self.now.puzzle.tiles.kinds }
+        ensures local { is_enabled self.now state.old.state (events.Local tile) ≡ is_local result }
+        ensures takes { (dir : AnyDir) → is_waiting self.now state.old.state tile.number dir ≡ takes_from result dir }
+        ensures gives { (dir : AnyDir) → is_giving self.now state.old.state tile.number dir ≡ gives_to result dir }
+        ensures steps { IsTrue (is_local result) → state.new.state ≡ after_event self.now state.old.state (events.Local tile) }
+        ensures stays { ¬ IsTrue (is_local result) → state.new.state ≡ state.old.state }
+        ensures spares { state.new.spares ≡ state.old.spares }
+        ensures fits { Fits self.now state.new.state }
+    {
+        // The call tells the proof that this is a grid.
+        self.puzzle();
+        if !self.is_compute(tile) {
+            return Intent::Nothing;
+        }
+        let mut node = state.node(tile);
+        let intent = node.advance(self.program(tile));
+        if !intent.is_local() {
+            return intent;
+        }
+        state.set_node(tile, node);
+        intent
+    }
+
     // Does what an event does.
-    #[inline]
+    #[inline(always)]
     fn act(&self, state: &mut State, event: Event)
         requires fits { Fits self.now state.old.state }
         requires enabled { IsEnabled self.now state.old.state event }
@@ -49,7 +80,7 @@ impl Grid {
     }
 
     // The next value of an input that has one left.
-    #[inline]
+    #[inline(always)]
     fn next_value(&self, state: &State, position: u8) -> Value
         requires fits { Fits self.now state.now.state }
         requires left { 0 < at.left_at state.now.state position }
@@ -63,7 +94,7 @@ impl Grid {
     }
 
     // The value that a tile gives to a port.
-    #[inline]
+    #[inline(always)]
     fn offered(&self, state: &State, tile: Tile, dir: Dir) -> Value
         requires within { tile.number < length state.now.state.nodes }
         requires offers { IsSome (table.offers (at.node_at state.now.state tile.number) dir) }
@@ -76,7 +107,7 @@ impl Grid {
     }
 
     // The tile that is next in a direction, where one is there.
-    #[inline]
+    #[inline(always)]
     pub(crate) fn reached(&self, tile: Tile, dir: Dir) -> Tile
         requires { tile.number < length self.now.puzzle.tiles.kinds }
         ensures next { result.number ≡ reached self.now tile.number dir }
@@ -89,7 +120,7 @@ impl Grid {
     }
 
     // A tile takes a value from a port.
-    #[inline]
+    #[inline(always)]
     fn take(&self, state: &mut State, tile: Tile, dir: Dir, value: Value)
         requires there { tile.number < length self.now.puzzle.tiles.kinds }
         requires within { tile.number < length state.old.state.nodes }
@@ -103,7 +134,7 @@ impl Grid {
     }
 
     // A tile gives its value to a port.
-    #[inline]
+    #[inline(always)]
     fn give(&self, state: &mut State, tile: Tile, dir: Dir)
         requires there { tile.number < length self.now.puzzle.tiles.kinds }
         requires within { tile.number < length state.old.state.nodes }
@@ -117,7 +148,7 @@ impl Grid {
     }
 
     // A tile does an instruction without a port.
-    #[inline]
+    #[inline(always)]
     fn do_local(&self, state: &mut State, tile: Tile)
         requires fits { Fits self.now state.old.state }
         requires enabled { IsEnabled self.now state.old.state (events.Local tile) }
@@ -129,7 +160,7 @@ impl Grid {
     }
 
     // A tile gives to the next one, which takes.
-    #[inline]
+    #[inline(always)]
     fn meet(&self, state: &mut State, tile: Tile, dir: Dir)
         requires fits { Fits self.now state.old.state }
         requires enabled { IsEnabled self.now state.old.state (events.Meet tile dir) }
@@ -142,7 +173,7 @@ impl Grid {
     }
 
     // The tile below an input takes its next value.
-    #[inline]
+    #[inline(always)]
     fn take_in(&self, state: &mut State, position: u8)
         requires fits { Fits self.now state.old.state }
         requires enabled { IsEnabled self.now state.old.state (events.In position) }
@@ -154,7 +185,7 @@ impl Grid {
     }
 
     // The tile above an output gives its value, which the output takes.
-    #[inline]
+    #[inline(always)]
     fn give_out(&self, state: &mut State, position: u8)
         requires fits { Fits self.now state.old.state }
         requires enabled { IsEnabled self.now state.old.state (events.Out position) }
@@ -169,7 +200,7 @@ impl Grid {
     }
 
     // A tile gives to a stack.
-    #[inline]
+    #[inline(always)]
     fn push(&self, state: &mut State, tile: Tile, dir: Dir)
         requires fits { Fits self.now state.old.state }
         requires enabled { IsEnabled self.now state.old.state (events.Push tile dir) }
@@ -182,7 +213,7 @@ impl Grid {
     }
 
     // A tile takes the newest value of a stack.
-    #[inline]
+    #[inline(always)]
     fn pop(&self, state: &mut State, tile: Tile, dir: Dir)
         requires fits { Fits self.now state.old.state }
         requires enabled { IsEnabled self.now state.old.state (events.Pop tile dir) }

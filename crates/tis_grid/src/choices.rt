@@ -97,7 +97,7 @@ impl Choices {
 }
 
 // Puts an event, where there is one, behind the others of a list.
-#[inline]
+#[inline(always)]
 fn put<const MOST: usize>(events: &mut ArrayVec<Event, MOST>, event: Option<Event>)
     requires { array_vec_len events.old < MOST }
     ensures items { events.new.items ≡ events.old.items ++ event_of event }
@@ -110,7 +110,7 @@ fn put<const MOST: usize>(events: &mut ArrayVec<Event, MOST>, event: Option<Even
 
 impl Grid {
     // Puts an event behind the others of a list, where it can happen.
-    #[inline]
+    #[inline(always)]
     fn list<const MOST: usize>(
         &self,
         state: &State,
@@ -128,7 +128,7 @@ impl Grid {
     }
 
     // What a tile that waits for a value from a direction can do there: it pops, where a stack has a value.
-    #[inline]
+    #[inline(always)]
     fn pulled(&self, state: &State, tile: Tile, dir: Dir) -> Option<Event>
         requires fits { Fits self.now state.now.state }
         requires there { tile.number < length self.now.puzzle.tiles.kinds }
@@ -144,7 +144,7 @@ impl Grid {
 
     // What a tile that gives a value to a direction can do there: it meets a tile that waits, or pushes onto a stack that
     // isn't full.
-    #[inline]
+    #[inline(always)]
     fn given_to(&self, state: &State, tile: Tile, dir: Dir) -> Option<Event>
         requires fits { Fits self.now state.now.state }
         requires there { tile.number < length self.now.puzzle.tiles.kinds }
@@ -201,7 +201,7 @@ impl Grid {
     }
 
     // The list of one event, or of none.
-    #[inline]
+    #[inline(always)]
     fn alone(event: Option<Event>) -> ArrayVec<Event, WAYS>
         ensures { result.items ≡ event_of event }
     {

@@ -21,10 +21,11 @@ use tis_node::{Intent, Node};
 
 // How many columns, and how many tiles a grid has.
 const WIDTH: u8 = 4;
+
 const COUNT: u8 = 12;
 
 // The tile that is next in a direction, on four columns and three rows.
-#[inline]
+#[inline(always)]
 fn beside(tile: Tile, dir: Dir) -> Option<Tile>
     requires { tile.number < 12 }
     ensures { option_map (λ t. t.number) result ≡ neighbour_of (record { columns = 4; rows = 3 }) tile.number dir }
@@ -42,7 +43,7 @@ fn beside(tile: Tile, dir: Dir) -> Option<Tile>
 
 impl Grid {
     // Whether a tile is there.
-    #[inline]
+    #[inline(always)]
     fn is_there(&self, tile: Tile) -> bool
         ensures there { IsTrue result → tile.number < length self.now.puzzle.tiles.kinds }
         ensures not_there { ¬ IsTrue result → length self.now.puzzle.tiles.kinds ≤ tile.number }
@@ -53,7 +54,7 @@ impl Grid {
     }
 
     // Whether a compute tile is there.
-    #[inline]
+    #[inline(always)]
     pub(crate) fn is_compute(&self, tile: Tile) -> bool
         ensures is { result ≡ event.is_compute_at self.now tile.number }
         ensures there { IsTrue result → tile.number < length self.now.puzzle.tiles.kinds }
@@ -66,7 +67,7 @@ impl Grid {
     }
 
     // Whether a memory tile is there.
-    #[inline]
+    #[inline(always)]
     pub(crate) fn is_memory(&self, tile: Tile) -> bool
         ensures is { result ≡ event.is_memory_at self.now tile.number }
         ensures there { IsTrue result → tile.number < length self.now.puzzle.tiles.kinds }
@@ -79,7 +80,7 @@ impl Grid {
     }
 
     // The program of a tile.
-    #[inline]
+    #[inline(always)]
     pub(crate) fn program(&self, tile: Tile) -> &Program
         requires { tile.number < length self.now.puzzle.tiles.kinds }
         ensures program { result.now ≡ event.program_of self.now tile.number }
@@ -89,7 +90,7 @@ impl Grid {
     }
 
     /// The tile that is next in a direction, where one is there.
-    #[inline]
+    #[inline(always)]
     pub fn next(&self, tile: Tile, dir: Dir) -> Option<Tile>
         requires { tile.number < length self.now.puzzle.tiles.kinds }
         ensures next { option_map (λ t. t.number) result ≡ event.next_tile self.now tile.number dir }
@@ -104,7 +105,7 @@ impl Grid {
     /// What the node of a tile would do next, if nothing else happened; on a tile that has none, nothing. One look
     /// answers whether it can do an instruction without a port, from which ports it waits for a value, and to which it
     /// gives one.
-    #[inline]
+    #[inline(always)]
     pub fn intent(&self, state: &State, tile: Tile) -> Intent
         requires fits { Fits self.now state.now.state }
         requires there { tile.number < length self.now.puzzle.tiles.kinds }
@@ -119,7 +120,7 @@ impl Grid {
     }
 
     // Whether a compute tile waits for a value from a port.
-    #[inline]
+    #[inline(always)]
     pub(crate) fn is_waiting(&self, state: &State, tile: Tile, dir: Dir) -> bool
         requires { Fits self.now state.now.state }
         ensures is { result ≡ event.is_waiting self.now state.now.state tile.number dir }
@@ -132,7 +133,7 @@ impl Grid {
     }
 
     /// Whether a compute tile gives a value to a port.
-    #[inline]
+    #[inline(always)]
     pub fn is_giving(&self, state: &State, tile: Tile, dir: Dir) -> bool
         requires { Fits self.now state.now.state }
         ensures is { result ≡ event.is_giving self.now state.now.state tile.number dir }
@@ -145,7 +146,7 @@ impl Grid {
     }
 
     /// Whether a stack takes one more value; a tile of another kind takes none.
-    #[inline]
+    #[inline(always)]
     pub fn has_room(&self, state: &State, tile: Tile) -> bool
         requires { Fits self.now state.now.state }
         ensures { result ≡ event.has_room self.now state.now.state tile.number }
@@ -157,7 +158,7 @@ impl Grid {
     }
 
     /// Whether a stack has a value to give; a tile of another kind has none.
-    #[inline]
+    #[inline(always)]
     pub fn has_value(&self, state: &State, tile: Tile) -> bool
         requires { Fits self.now state.now.state }
         ensures { result ≡ event.has_value self.now state.now.state tile.number }
@@ -169,7 +170,7 @@ impl Grid {
     }
 
     // Whether an output stands at a position.
-    #[inline]
+    #[inline(always)]
     fn output_stands(&self, state: &State, position: u8) -> bool
         requires { Fits self.now state.now.state }
         ensures { result ≡ has_output self.now.puzzle.outputs position }
@@ -178,7 +179,7 @@ impl Grid {
     }
 
     // The tile at the bottom of a column.
-    #[inline]
+    #[inline(always)]
     pub(crate) fn bottom(&self, position: u8) -> Tile
         requires { position < self.now.puzzle.tiles.shape.columns }
         ensures { result.number ≡ event.bottom_of self.now position }
@@ -191,7 +192,7 @@ impl Grid {
     }
 
     // Whether a compute tile can do an instruction without a port.
-    #[inline]
+    #[inline(always)]
     pub(crate) fn can_local(&self, state: &State, tile: Tile) -> bool
         requires { Fits self.now state.now.state }
         ensures { result ≡ event.is_enabled self.now state.now.state (events.Local tile) }
@@ -203,7 +204,7 @@ impl Grid {
     }
 
     // Whether a tile gives to the next one, which waits for it.
-    #[inline]
+    #[inline(always)]
     pub(crate) fn can_meet(&self, state: &State, tile: Tile, dir: Dir) -> bool
         requires { Fits self.now state.now.state }
         ensures { result ≡ event.is_enabled self.now state.now.state (events.Meet tile dir) }
@@ -218,7 +219,7 @@ impl Grid {
     }
 
     // Whether the tile below an input waits for its next value.
-    #[inline]
+    #[inline(always)]
     pub(crate) fn can_take(&self, state: &State, position: u8) -> bool
         requires { Fits self.now state.now.state }
         ensures { result ≡ event.is_enabled self.now state.now.state (events.In position) }
@@ -233,7 +234,7 @@ impl Grid {
     }
 
     // Whether the tile above an output gives to it.
-    #[inline]
+    #[inline(always)]
     pub(crate) fn can_give(&self, state: &State, position: u8) -> bool
         requires { Fits self.now state.now.state }
         ensures { result ≡ event.is_enabled self.now state.now.state (events.Out position) }
@@ -248,7 +249,7 @@ impl Grid {
     }
 
     // Whether a tile gives to a stack that isn't full.
-    #[inline]
+    #[inline(always)]
     pub(crate) fn can_push(&self, state: &State, tile: Tile, dir: Dir) -> bool
         requires { Fits self.now state.now.state }
         ensures { result ≡ event.is_enabled self.now state.now.state (events.Push tile dir) }
@@ -263,7 +264,7 @@ impl Grid {
     }
 
     // Whether a tile waits for a value from a stack that isn't empty.
-    #[inline]
+    #[inline(always)]
     pub(crate) fn can_pop(&self, state: &State, tile: Tile, dir: Dir) -> bool
         requires { Fits self.now state.now.state }
         ensures { result ≡ event.is_enabled self.now state.now.state (events.Pop tile dir) }

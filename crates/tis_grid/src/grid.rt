@@ -189,7 +189,7 @@ impl Grid {
     }
 
     /// Whether an event can happen next. One that names a tile or a position that isn't there can't.
-    #[inline]
+    #[inline(always)]
     pub fn enabled(&self, state: &State, event: Event) -> bool
         requires { Fits self.now state.now.state }
         ensures { result ≡ is_enabled self.now state.now.state event }

@@ -10,7 +10,7 @@ use tis_node::Node;
 
 impl State {
     // The node of a tile, where it stands.
-    #[inline]
+    #[inline(always)]
     pub(crate) fn node_of(&self, tile: Tile) -> &Node
         requires { tile.number < length self.now.state.nodes }
         ensures { node_view result.now ≡ node_at self.now.state tile.number }
@@ -19,7 +19,7 @@ impl State {
     }
 
     // Puts a node in place of that of a tile.
-    #[inline]
+    #[inline(always)]
     pub(crate) fn set_node(&mut self, tile: Tile, node: Node)
         requires { tile.number < length self.old.state.nodes }
         ensures { self.new ≡ record self.old { state = with_node self.old.state tile.number (node_view node) } }

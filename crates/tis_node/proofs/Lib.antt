@@ -1,1 +1,1 @@
-mod Intended
+mod Advancing

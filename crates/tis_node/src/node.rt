@@ -61,6 +61,23 @@ pub enum Intent {
     GivesAny,
 }
 
+impl Intent {
+    /// Whether it is an instruction that needs no port.
+    #[inline(always)]
+    pub fn is_local(&self) -> bool
+        ensures { result ≡ intents.is_local self.now }
+    {
+        match self {
+            Intent::Local => true,
+            Intent::Nothing
+            | Intent::Takes(_)
+            | Intent::TakesAny
+            | Intent::Gives(_)
+            | Intent::GivesAny => false,
+        }
+    }
+}
+
 // Where the value of a source is.
 #[derive(Clone, Copy, Debug)]
 pub(crate) enum Supply {
@@ -70,7 +87,7 @@ pub(crate) enum Supply {
 }
 
 // The source of an instruction, where it has one.
-#[inline]
+#[inline(always)]
 fn source_of(instr: &Instr) -> Option<Source>
     ensures { result ≡ table.source_of instr.now }
 {
@@ -83,7 +100,7 @@ fn source_of(instr: &Instr) -> Option<Source>
 }
 
 // Whether a jump is made, by the number in ACC.
-#[inline]
+#[inline(always)]
 fn jumps(jump: Jump, acc: Value) -> bool
     ensures { result ≡ table.jumps jump acc }
 {
@@ -98,7 +115,7 @@ fn jumps(jump: Jump, acc: Value) -> bool
 }
 
 // So many instructions on or back from a number, but not before the first one nor behind the last one.
-#[inline]
+#[inline(always)]
 fn away(program: &Program, pc: u8, by: Value) -> u8
     requires { pc < length program.now }
     ensures { result ≡ table.away program.now pc by }
@@ -141,7 +158,7 @@ impl Node {
     }
 
     // The instruction at the pc.
-    #[inline]
+    #[inline(always)]
     fn instr(&self, program: &Program) -> Option<Instr>
         ensures instr { result ≡ table.instr_at program.now self.now.pc }
         ensures values { HasValues program.now }
@@ -154,7 +171,7 @@ impl Node {
     }
 
     // Where the value of a source is.
-    #[inline]
+    #[inline(always)]
     fn supply_of(&self, source: Source) -> Supply
         ensures { supply_view result ≡ table.supply_of source (node_view self.now) }
     {
@@ -172,7 +189,7 @@ impl Node {
     }
 
     // Ready, at the next instruction.
-    #[inline]
+    #[inline(always)]
     fn go_on(&mut self, program: &Program)
         requires { self.old.pc < length program.now }
         ensures { node_view self.new ≡ table.goes_on program.now (node_view self.old) }
@@ -184,7 +201,7 @@ impl Node {
     }
 
     // Ready, at the instruction with this number.
-    #[inline]
+    #[inline(always)]
     fn go_to(&mut self, number: u8)
         ensures { node_view self.new ≡ table.goes_to number (node_view self.old) }
     {
@@ -193,7 +210,7 @@ impl Node {
     }
 
     // Waits until the value is read.
-    #[inline]
+    #[inline(always)]
     fn write(&mut self, value: Value, to: Toward)
         ensures { node_view self.new ≡ table.writes value (toward_view to) (node_view self.old) }
     {
@@ -201,7 +218,7 @@ impl Node {
     }
 
     // What an instruction does that has no source.
-    #[inline]
+    #[inline(always)]
     fn do_plain(&mut self, instr: Instr, program: &Program)
         requires { self.old.pc < length program.now }
         ensures { node_view self.new ≡ table.does instr program.now (node_view self.old) }
@@ -234,7 +251,7 @@ impl Node {
     }
 
     // A value goes where the instruction says.
-    #[inline]
+    #[inline(always)]
     fn put_to(&mut self, dest: Dest, program: &Program, value: Value)
         requires { self.old.pc < length program.now }
         ensures { node_view self.new ≡ table.put_to dest program.now (node_view self.old) value }
@@ -255,7 +272,7 @@ impl Node {
     }
 
     // What an instruction with a source does with its value.
-    #[inline]
+    #[inline(always)]
     fn do_with(&mut self, instr: Instr, program: &Program, value: Value)
         requires { self.old.pc < length program.now }
         ensures { node_view self.new ≡ table.does_with instr program.now (node_view self.old) value }
@@ -291,7 +308,7 @@ impl Node {
     }
 
     // ANY remembers the port that it used.
-    #[inline]
+    #[inline(always)]
     fn remember(&mut self, supply: Supply, dir: Dir)
         ensures { node_view self.new ≡ table.remembers (supply_view supply) dir (node_view self.old) }
     {
@@ -318,7 +335,7 @@ impl Node {
     }
 
     // What an instruction would do.
-    #[inline]
+    #[inline(always)]
     fn intent_at(&self, instr: Instr) -> Intent
         ensures { result ≡ intents.intent_with (table.source_of instr) (node_view self.now) }
     {
@@ -334,7 +351,7 @@ impl Node {
 
     /// What the node would do next: whether it can make a local step, from which ports it waits for a value, and to
     /// which it gives its own. One look answers all that the calls below are asked one by one.
-    #[inline]
+    #[inline(always)]
     pub fn intent(&self, program: &Program) -> Intent
         ensures is { result ≡ intents.intent_of program.now (node_view self.now) }
         ensures local { table.can_local program.now (node_view self.now) ≡ intents.is_local result }
@@ -351,7 +368,8 @@ impl Node {
                 ..
             } => Intent::Gives(port),
             Mode::Writing {
-                to: Toward::Any, ..
+                to: Toward::Any,
+                ..
             } => Intent::GivesAny,
         }
     }
@@ -384,6 +402,58 @@ impl Node {
         match self.instr(program) {
             Some(instr) => self.do_local(instr, program),
             None => {}
+        }
+    }
+
+    // Does an instruction, where it needs no port, and tells what it would do.
+    #[inline(always)]
+    fn advance_by(&mut self, instr: Instr, program: &Program) -> Intent
+        requires { self.old.pc < length program.now }
+        ensures intent { result ≡ intents.intent_with (table.source_of instr) (node_view self.old) }
+        ensures step { node_view self.new ≡ table.does_by (table.source_of instr) instr program.now (node_view self.old) }
+    {
+        match source_of(&instr) {
+            None => {
+                self.do_plain(instr, program);
+                Intent::Local
+            }
+            Some(source) => match self.supply_of(source) {
+                Supply::AtHand(held) => {
+                    self.do_with(instr, program, held);
+                    Intent::Local
+                }
+                Supply::AtPort(port) => Intent::Takes(port),
+                Supply::AtAny => Intent::TakesAny,
+            },
+        }
+    }
+
+    /// Makes the node's local step, where it can make one, and tells what it would do: [`Node::intent`] and
+    /// [`Node::local`] in one look.
+    #[inline(always)]
+    pub fn advance(&mut self, program: &Program) -> Intent
+        requires sound { IsSound program.now }
+        requires fits { table.FitsProgram program.now (node_view self.old) }
+        ensures local { table.can_local program.now (node_view self.old) ≡ intents.is_local result }
+        ensures takes { (dir : AnyDir) → table.wants program.now (node_view self.old) dir ≡ intents.takes_from result dir }
+        ensures gives { (dir : AnyDir) → is_some (table.offers (node_view self.old) dir) ≡ intents.gives_to result dir }
+        ensures steps { IsTrue (intents.is_local result) → node_view self.new ≡ table.local_step program.now (node_view self.old) }
+        ensures stays { ¬ IsTrue (intents.is_local result) → node_view self.new ≡ node_view self.old }
+        ensures fits { table.FitsProgram program.now (node_view self.new) }
+    {
+        match self.mode {
+            Mode::Ready => match self.instr(program) {
+                None => Intent::Nothing,
+                Some(instr) => self.advance_by(instr, program),
+            },
+            Mode::Writing {
+                to: Toward::One(port),
+                ..
+            } => Intent::Gives(port),
+            Mode::Writing {
+                to: Toward::Any,
+                ..
+            } => Intent::GivesAny,
         }
     }
 

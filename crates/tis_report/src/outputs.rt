@@ -54,11 +54,7 @@ fn push_output_at(
 }
 
 /// Writes the outputs by ascending position.
-pub fn push_outputs(
-    out: &mut Vec<u8>,
-    puzzle: &Puzzle,
-    state: &State,
-) -> Result<(), NoMemory>
+pub fn push_outputs(out: &mut Vec<u8>, puzzle: &Puzzle, state: &State) -> Result<(), NoMemory>
     ensures { OnOk result (out.new.items ≡ out.old.items ++ outputs_text (puzzle_of puzzle.now) state.now.state) }
 {
     for position in 0..puzzle.tiles.shape().columns {

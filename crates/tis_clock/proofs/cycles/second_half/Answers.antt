@@ -34,8 +34,8 @@ loop-number-preserved c =
       fits = c.act.ensures.fits;
       left = subst (IsLeft grid (c.loop-number.number + 1) c.args.state.now.spares) (sym c.act.ensures.spares)
           (still_left grid c.loop-number.number c.args.state.now.spares c.loop-number.state.spares c.give_out-chosen.result c.loop-number.invariant.left gives);
-      done = one_more grid (gives_out grid was) c.args.state.now.state c.args.trace.now (length grid.puzzle.tiles.kinds) c.loop-number.number c.loop-number.trace c.loop-number.state.state c.give_out-chosen.result c.act.new.trace c.act.new.state.state
-          c.loop-number.invariant.done (subst (λ (n : ℕ). c.loop-number.number < n) c.tiles_of-number-end.ensures.tiles c.loop-number-test.true) c.give_out-chosen.ensures c.act.ensures.trace c.act.ensures.state;
+      done = one_more grid (gives_out grid was) c.args.state.now.state c.args.trace.now (length grid.puzzle.tiles.kinds) c.loop-number.number c.loop-number.trace c.loop-number.state.state c.give_out-chosen.result c.add.new.self c.act.new.state.state
+          c.loop-number.invariant.done (subst (λ (n : ℕ). c.loop-number.number < n) c.tiles_of-number-end.ensures.tiles c.loop-number-test.true) c.give_out-chosen.ensures c.add.ensures c.act.ensures.state;
     }
 
 pub returns-clause-trace : goal.returns-clause-trace

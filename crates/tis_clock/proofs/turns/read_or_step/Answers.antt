@@ -1,23 +1,63 @@
--- Each intent leaves these ways alone.
-use Rattle.std.proofs.Common.{sym, ◌∙◌}
-use Rattle.tis_clock.specs.Turns.{kept_at}
-use Rattle.tis_clock.proofs.Intended.{waits_its_turn, steps, takes_one, takes_any, takes_none}
+-- It steps, or takes what comes.
+use Rattle.std.proofs.Common.{◌≡◌, false, cond, None, sym, ap, ◌∙◌}
+use Rattle.std.specs.Prelude.{Bool, not}
+use Rattle.tis_node.specs.Intents.{is_local}
+use Rattle.tis_grid.specs.declared.event.Event.{Event}
+use Rattle.tis_grid.specs.declared.event.Event.TheVariants.{Local}
+use Rattle.tis_grid.specs.State.{State}
+use Rattle.tis_grid.specs.Events.{is_enabled, is_waiting, IsEnabled}
+use Rattle.tis_grid.specs.HeldState.{HasRoom}
+use Rattle.tis_clock.specs.Cycle.{ways_of_ready, first_way, reads_or_steps, state_after}
+use Rattle.tis_clock.specs.Turns.{kept_at, acts}
+use Rattle.tis_clock.proofs.Intended.{not_true, steps}
+use Rattle.tis_clock.proofs.Room.{GivesNoOutput, if_chosen, reads_can, reads_give_none, no_room_asked, room_stays}
 use Rattle.tis_clock.proofs.turns.read_or_step.Goals as goal
 
-pub returns-in-Local : goal.returns-in-Local
-returns-in-Local c = steps c.args.grid.now c.puzzle.ensures.grid c.args.state.now.state (kept_at c.args.writing.now) c.args.tile.number c.requires.there (sym c.was_writing.ensures ∙ c.if-was_writing.false) c.in-Local.ensures.local
+pub take-taken-requires-clause-local : goal.take-taken-requires-clause-local
+take-taken-requires-clause-local c =
+    let not_local : is_local c.advance-intent.result ≡ false = sym c.is_local.ensures ∙ c.if-is_local.false in
+    ap (λ (s : State). is_enabled c.args.grid.now s (Local c.args.tile)) (c.advance-intent.ensures.stays (not_true (is_local c.advance-intent.result) not_local)) ∙ c.advance-intent.ensures.local ∙ not_local
 
-pub returns-in-Takes : goal.returns-in-Takes
-returns-in-Takes c = c.take_from.ensures ∙ takes_one c.args.grid.now c.puzzle.ensures.grid c.args.state.now.state (kept_at c.args.writing.now) c.args.tile.number c.requires.there (sym c.was_writing.ensures ∙ c.if-was_writing.false) c.in-Takes.ensures.local c.in-Takes.dir c.in-Takes.ensures.takes
+pub take-taken-requires-clause-takes : goal.take-taken-requires-clause-takes
+take-taken-requires-clause-takes c =
+    let not_local : is_local c.advance-intent.result ≡ false = sym c.is_local.ensures ∙ c.if-is_local.false in
+    λ dir. ap (λ (s : State). is_waiting c.args.grid.now s c.args.tile.number dir) (c.advance-intent.ensures.stays (not_true (is_local c.advance-intent.result) not_local)) ∙ c.advance-intent.ensures.takes dir
 
-pub returns-in-TakesAny : goal.returns-in-TakesAny
-returns-in-TakesAny c = c.take_any.ensures ∙ takes_any c.args.grid.now c.puzzle.ensures.grid c.args.state.now.state (kept_at c.args.writing.now) c.args.tile.number c.requires.there (sym c.was_writing.ensures ∙ c.if-was_writing.false) c.in-TakesAny.ensures.local
+pub act-requires-clause-enabled : goal.act-requires-clause-enabled
+act-requires-clause-enabled c =
+    let here = c.advance-intent.new.state.state in
+    if_chosen (λ (event : Event). IsEnabled c.args.grid.now here event) c.take-taken.result (reads_or_steps c.args.grid.now (kept_at c.args.writing.now) here c.args.tile.number) c.take-taken.ensures
+    (reads_can c.args.grid.now (kept_at c.args.writing.now) here c.args.tile.number)
 
-pub returns-in-Nothing : goal.returns-in-Nothing
-returns-in-Nothing c = takes_none c.args.grid.now c.puzzle.ensures.grid c.args.state.now.state (kept_at c.args.writing.now) c.args.tile.number c.requires.there (sym c.was_writing.ensures ∙ c.if-was_writing.false) c.in-Nothing.ensures.local c.in-Nothing.ensures.takes
+pub act-requires-clause-room : goal.act-requires-clause-room
+act-requires-clause-room c =
+    let here = c.advance-intent.new.state.state in
+    if_chosen (λ (event : Event). HasRoom c.advance-intent.new.state.spares event) c.take-taken.result (reads_or_steps c.args.grid.now (kept_at c.args.writing.now) here c.args.tile.number) c.take-taken.ensures
+    (λ event is. no_room_asked c.advance-intent.new.state.spares event (reads_give_none c.args.grid.now (kept_at c.args.writing.now) here c.args.tile.number event is))
 
-pub returns-in-Gives : goal.returns-in-Gives
-returns-in-Gives c = takes_none c.args.grid.now c.puzzle.ensures.grid c.args.state.now.state (kept_at c.args.writing.now) c.args.tile.number c.requires.there (sym c.was_writing.ensures ∙ c.if-was_writing.false) c.in-Gives.ensures.local c.in-Gives.ensures.takes
+pub returns-then-was_writing-clause-chosen : goal.returns-then-was_writing-clause-chosen
+returns-then-was_writing-clause-chosen c =
+    sym (ap (λ (b : Bool). cond (not b) (first_way c.args.grid.now (kept_at c.args.writing.now) c.args.state.now.state (ways_of_ready c.args.grid.now c.args.tile.number)) None) (sym c.was_writing.ensures ∙ c.if-was_writing.true))
 
-pub returns-in-GivesAny : goal.returns-in-GivesAny
-returns-in-GivesAny c = takes_none c.args.grid.now c.puzzle.ensures.grid c.args.state.now.state (kept_at c.args.writing.now) c.args.tile.number c.requires.there (sym c.was_writing.ensures ∙ c.if-was_writing.false) c.in-GivesAny.ensures.local c.in-GivesAny.ensures.takes
+pub returns-then-is_local-clause-chosen : goal.returns-then-is_local-clause-chosen
+returns-then-is_local-clause-chosen c =
+    steps c.args.grid.now c.puzzle.ensures.grid c.args.state.now.state (kept_at c.args.writing.now) c.args.tile.number c.requires.there (sym c.was_writing.ensures ∙ c.if-was_writing.false)
+    (c.advance-intent.ensures.local ∙ sym c.is_local.ensures ∙ c.if-is_local.true)
+
+pub returns-clause-chosen : goal.returns-clause-chosen
+returns-clause-chosen c =
+    let not_local : is_local c.advance-intent.result ≡ false = sym c.is_local.ensures ∙ c.if-is_local.false in
+    c.take-taken.ensures ∙ ap (λ (s : State). reads_or_steps c.args.grid.now (kept_at c.args.writing.now) s c.args.tile.number) (c.advance-intent.ensures.stays (not_true (is_local c.advance-intent.result) not_local))
+
+pub returns-clause-state : goal.returns-clause-state
+returns-clause-state c =
+    let not_local : is_local c.advance-intent.result ≡ false = sym c.is_local.ensures ∙ c.if-is_local.false in
+    c.act.ensures.state ∙ ap (λ (s : State). state_after c.args.grid.now s (acts c.take-taken.result)) (c.advance-intent.ensures.stays (not_true (is_local c.advance-intent.result) not_local))
+
+pub returns-clause-spares : goal.returns-clause-spares
+returns-clause-spares c =
+    let here = c.advance-intent.new.state.state in
+    let choice = reads_or_steps c.args.grid.now (kept_at c.args.writing.now) here c.args.tile.number in
+    c.act.ensures.spares
+    ∙ room_stays c.advance-intent.new.state.spares c.take-taken.result (if_chosen GivesNoOutput c.take-taken.result choice c.take-taken.ensures (reads_give_none c.args.grid.now (kept_at c.args.writing.now) here c.args.tile.number))
+    ∙ c.advance-intent.ensures.spares

@@ -5,7 +5,7 @@ use Rattle.tis_base.specs.declared.tiles.Dir.{Dir}
 use Rattle.tis_grid.specs.Events.{is_giving}
 use Rattle.tis_grid.specs.declared.event.Event.TheVariants.{Meet}
 use Rattle.tis_clock.specs.Turns.{kept_at}
-use Rattle.tis_clock.proofs.Intended.{met, popped, nothing_comes}
+use Rattle.tis_clock.proofs.Intended.{met}
 use Rattle.tis_clock.proofs.turns.take_from_next.Goals as goal
 
 pub returns-then-gives_old : goal.returns-then-gives_old

@@ -3,7 +3,7 @@ use Rattle.std.proofs.Common.{◌≡◌, subst, ap, ◌∙◌}
 use Rattle.std.specs.Prelude.{option_map}
 use Rattle.tis_base.specs.Tiles.{neighbour_of}
 use Rattle.tis_base.specs.declared.tiles.Shape.{Shape}
-use Rattle.tis_grid.specs.State.{Grid, IsGrid}
+use Rattle.tis_grid.specs.State.{IsGrid}
 use Rattle.tis_grid.specs.Events.{next_tile}
 use Rattle.tis_grid.proofs.Frames.{next_there, next_apart}
 use Rattle.tis_grid.proofs.Starting.{four_by_three}
