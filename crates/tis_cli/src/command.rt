@@ -1,6 +1,6 @@
 //! The words of the command line.
 ghost use Rattle.std.specs.Prelude.{◌≡◌, map, option_map, string_bytes};
-ghost use Rattle.tis_cli.specs.Commands.{command_of, command_view, seed_of as seed_in, limit_of as limit_in, seeds_of as seeds_in, kept_seeds, run_with, order_with, replay_with, grade_with, debug_with};
+ghost use Rattle.tis_cli.specs.Commands.{command_of, fixed_of, command_view, seed_of as seed_in, limit_of as limit_in, seeds_of as seeds_in, kept_seeds, grade_of, run_with, order_with, replay_with, grade_with, debug_with};
 ghost use Rattle.tis_cli.specs.Outcomes.{words_of};
 
 use tis_words::number_of;
@@ -130,7 +130,8 @@ fn seeds_of(words: &[String]) -> Option<[Option<u64>; SEEDS]>
     }
     let mut seeds = [None; SEEDS];
     for index in 0..words.len() {
-        seeds[index] = Some(seed_of(&words[index])?);
+        let seed = seed_of(&words[index])?;
+        seeds[index] = Some(seed);
     }
     Some(seeds)
 }
@@ -169,9 +170,21 @@ fn debug<'a>(
     })
 }
 
-/// The command that these words are, or None where they are none.
-pub fn read_words<'a>(words: &'a [String]) -> Option<Command<'a>>
-    ensures { command_of (words_of words.now) ≡ option_map command_view result }
+// The command `grade` of these words, or None where they are another or none.
+fn read_grade<'a>(words: &'a [String]) -> Option<Command<'a>>
+    ensures { grade_of (words_of words.now) ≡ option_map command_view result }
+{
+    match words {
+        [word, save, spec, limit, seeds @ ..] if word.as_str() == "grade" => {
+            grade(save, spec, limit, seeds)
+        }
+        _ => None,
+    }
+}
+
+// The command of a fixed number of words that these words are.
+fn read_fixed<'a>(words: &'a [String]) -> Option<Command<'a>>
+    ensures { fixed_of (words_of words.now) ≡ option_map command_view result }
 {
     match words {
         [word, net, save] if word.as_str() == "compile" => Some(Command::Compile {
@@ -190,9 +203,16 @@ pub fn read_words<'a>(words: &'a [String]) -> Option<Command<'a>>
         [word, save, spec, seed, order_seed, limit] if word.as_str() == "order" => {
             order(save, spec, seed, order_seed, limit)
         }
-        [word, save, spec, limit, seeds @ ..] if word.as_str() == "grade" => {
-            grade(save, spec, limit, seeds)
-        }
         _ => None,
+    }
+}
+
+/// The command that these words are, or None where they are none.
+pub fn read_words<'a>(words: &'a [String]) -> Option<Command<'a>>
+    ensures { command_of (words_of words.now) ≡ option_map command_view result }
+{
+    match read_fixed(words) {
+        Some(command) => Some(command),
+        None => read_grade(words),
     }
 }
