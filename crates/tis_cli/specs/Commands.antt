@@ -65,6 +65,7 @@ grade_with save spec limit seeds = option_and_then (λ l. option_map (λ all. Gr
 abbrev pub grade_of : List (List ℕ) → Option Command
 grade_of (word ∷ save ∷ spec ∷ limit ∷ seeds) = if bytes_eq word (codes "grade") then grade_with save spec (limit_of limit) (seeds_of seeds) else None
 grade_of _ = None
+
 abbrev pub debug_with : List ℕ → List ℕ → Option ℕ → List ℕ → Option Command
 debug_with save spec seed script = option_map (λ s. Debug save spec s script) seed
 

@@ -5,8 +5,8 @@ ghost use Rattle.tis_cli.specs.Statuses.{number_of};
 use net_column::NetError;
 use tis_base::{NoMemory, SinkError, StoreError};
 use tis_debug::ScriptError;
-use tis_grid_text::{EventsError, GridTextError};
 use tis_grade::Verdict;
+use tis_grid_text::{EventsError, GridTextError};
 use tis_save::SaveError;
 
 /// Why a text was refused.

@@ -15,6 +15,7 @@ finish-requires-in-Replay g c = runs_end (Replay c.in-Replay.save.now c.in-Repla
 
 pub finish-requires-in-Grade : goal.finish-requires-in-Grade
 finish-requires-in-Grade g c = runs_end (Grade c.in-Grade.save.now c.in-Grade.spec.now c.in-Grade.limit (kept_seeds c.in-Grade.seeds)) (g.S.Store.texts c.args.store.now) c.work_of_grade.result c.work_of_grade.ensures.runs
+
 pub finish-requires-in-Debug : goal.finish-requires-in-Debug
 finish-requires-in-Debug g c = runs_end (Debug c.in-Debug.save.now c.in-Debug.spec.now c.in-Debug.seed c.in-Debug.script.now) (g.S.Store.texts c.args.store.now) c.work_of_debug.result (c.work_of_debug.ensures.runs c.in-Debug.seed)
 
@@ -48,6 +49,7 @@ returns-in-Grade-clause-explains g c =
     rw c.in-Grade.is
     (finished (Grade c.in-Grade.save.now c.in-Grade.spec.now c.in-Grade.limit (kept_seeds c.in-Grade.seeds)) refl (λ found bytes. tt) (g.S.Store.texts c.args.store.now) (g.S.Store.texts c.work_of_grade.new.store) c.work_of_grade.ensures.texts_stay
     c.work_of_grade.result c.work_of_grade.ensures.runs (g.K.Sink.written c.args.out.now) (g.K.Sink.written c.finish-in-Grade.new.out) c.finish-in-Grade.result c.finish-in-Grade.ensures.finishes)
+
 pub returns-in-Debug-clause-explains : goal.returns-in-Debug-clause-explains
 returns-in-Debug-clause-explains g c =
     rw c.in-Debug.is
