@@ -8,4 +8,7 @@ pub mod Rounds
 pub mod Counted
 pub mod Accepted
 pub mod Numbering
+mod Tables
+mod Sorting
+mod Finding
 mod Examples

@@ -24,6 +24,8 @@
 mod error;
 mod laws;
 mod loops;
+mod names;
+mod statements;
 mod sure;
 mod turns;
 mod uses;
