@@ -11,4 +11,6 @@ pub mod Numbering
 mod Tables
 mod Sorting
 mod Finding
+mod Declaring
+mod Passing
 mod Examples

@@ -10,3 +10,4 @@ pub mod Sure
 pub mod Laws
 pub mod Tables
 pub mod Found
+pub mod Known

@@ -21,8 +21,10 @@
 //! nothing of programs and grids, and of tiles only how many there are.
 #![tactic(auto)]
 
+mod declarations;
 mod error;
 mod laws;
+mod known;
 mod loops;
 mod names;
 mod statements;
