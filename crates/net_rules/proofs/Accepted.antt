@@ -48,11 +48,11 @@ in_order line y (x ∷ xs) (inr later) = still_placed line x y (by_line line xs)
 
 -- ---- where no rule is broken
 
-neither : (one other : Option BrokenRule) → option_or one other ≡ None → (one ≡ None) × (other ≡ None)
+pub neither : (one other : Option BrokenRule) → option_or one other ≡ None → (one ≡ None) × (other ≡ None)
 neither None other is = (refl, is)
 neither (Some rule) other is = absurd cc
 
-no_test : (test : Bool) (rule : BrokenRule) → broken_where test rule ≡ None → test ≡ false
+pub no_test : (test : Bool) (rule : BrokenRule) → broken_where test rule ≡ None → test ≡ false
 no_test true rule is = absurd cc
 no_test false rule is = refl
 

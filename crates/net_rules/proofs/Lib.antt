@@ -13,4 +13,6 @@ mod Sorting
 mod Finding
 mod Declaring
 mod Passing
+mod Knowing
+mod FirstUsers
 mod Examples

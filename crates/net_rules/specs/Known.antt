@@ -77,6 +77,20 @@ use_fault readable writable readers writers found =
     (option_or (broken_where (is_used_by_other writers found.process found.written) (WrittenTwice found.line))
     (broken_where found.changes (CounterChanged found.line)))))
 
+-- another process than this one uses the name, where there is one, in an earlier statement
+abbrev pub is_used_among : (Use → Option Name) → List Use → ℕ → Option Name → Bool
+is_used_among use_of earlier process None = false
+is_used_among use_of earlier process (Some name) = is_used_elsewhere use_of earlier process name
+
+-- the same, by the statements before themselves
+abbrev pub use_fault_among : Table → Table → List Use → Use → Option BrokenRule
+use_fault_among readable writable earlier found =
+    option_or (broken_where (isnt_known readable found.read) (Unknown found.line))
+    (option_or (broken_where (isnt_known writable found.written) (Unknown found.line))
+    (option_or (broken_where (is_used_among (λ other. other.read) earlier found.process found.read) (ReadTwice found.line))
+    (option_or (broken_where (is_used_among (λ other. other.written) earlier found.process found.written) (WrittenTwice found.line))
+    (broken_where found.changes (CounterChanged found.line)))))
+
 -- ---- all statements
 
 -- the process of the first of these statements that uses a name
@@ -104,3 +118,9 @@ is_smaller (Some writer) process = nat_lt writer process
 abbrev pub early_by_tables : Table → Table → ℕ → Option Name → Bool
 early_by_tables channels writers process None = false
 early_by_tables channels writers process (Some name) = has channels name && not (is_smaller (value_of writers name) process)
+
+abbrev pub unused_fault_by : Table → Table → List Declaration → Declaration → Option BrokenRule
+unused_fault_by readers writers earlier d = unused_by_tables readers writers d d.kind
+
+abbrev pub order_fault_by : Table → Table → List Use → Use → Option BrokenRule
+order_fault_by channels writers earlier found = broken_where (early_by_tables channels writers found.process found.read) (ReadBeforeWritten found.line)

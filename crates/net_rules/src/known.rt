@@ -4,9 +4,9 @@ ghost use Rattle.std.specs.Str.{bytes_eq};
 ghost use Rattle.tis_base.specs.Answers.{Gives};
 ghost use Rattle.net_tree.specs.View.{port_view, channel_view};
 ghost use Rattle.net_rules.specs.Broken.{IsBroken, Keeps};
-ghost use Rattle.net_rules.specs.Rules.{Unknown, ReadTwice, WrittenTwice, CounterChanged, broken_where, first_among, is_among};
+ghost use Rattle.net_rules.specs.Rules.{Unknown, ReadTwice, WrittenTwice, CounterChanged, broken_where, first_fault, is_among};
 ghost use Rattle.net_rules.specs.Found.{Use as SeenUse, use_view};
-ghost use Rattle.net_rules.specs.Known.{has, IsTableOf, isnt_known, is_used_by_other, KnowsUsers, IsNoted, use_fault};
+ghost use Rattle.net_rules.specs.Known.{has, IsTableOf, isnt_known, is_other as is_other_user, is_used_by_other, IsNoted, use_fault, use_fault_among};
 
 use crate::error::RuleError;
 use crate::names::NameTable;
@@ -54,7 +54,7 @@ pub(crate) fn forbid(wrong: bool, error: RuleError) -> Result<(), RuleError>
 
 // A name that is used is one of these.
 fn check_known(names: &NameTable, used: Option<&Name>, line: usize) -> Result<(), RuleError>
-    ensures { Keeps result (broken_where (isnt_known names.now (option_map (λ name. name.now) used)) (Unknown line)) }
+    ensures { Keeps result (broken_where (isnt_known names.now (option_map (λ name. name.now) used.entry)) (Unknown line)) }
 {
     match used {
         None => Ok(()),
@@ -65,18 +65,25 @@ fn check_known(names: &NameTable, used: Option<&Name>, line: usize) -> Result<()
     }
 }
 
+// Whether a process is there and isn't this one.
+fn is_other(user: Option<u32>, process: u32) -> bool
+    ensures { result ≡ is_other_user user process }
+{
+    match user {
+        None => false,
+        Some(other) => other != process,
+    }
+}
+
 // Whether another process uses a name already; if none does, this one does from now on.
 fn note_user<'n>(users: &mut NameTable<'n>, used: Option<&'n Name>, process: u32) -> Result<bool, NoMemory>
-    ensures other { IfOk result (λ other. other ≡ is_used_by_other users.old process (option_map (λ name. name.now) used)) }
-    ensures noted { OnOk result (IsNoted users.old users.new (option_map (λ name. name.now) used) process) }
+    ensures other { IfOk result (λ other. other ≡ is_used_by_other users.old process (option_map (λ name. name.now) used.entry)) }
+    ensures noted { OnOk result (IsNoted users.old users.new (option_map (λ name. name.now) used.entry) process) }
 {
     match used {
         None => Ok(false),
         Some(name) => {
-            let other = match users.get(name) {
-                None => false,
-                Some(user) => user != process,
-            };
+            let other = is_other(users.get(name), process);
             users.set(name, process)?;
             Ok(other)
         }
@@ -113,4 +120,19 @@ impl<'n> Users<'n> {
         }
         Ok(())
     }
+}
+
+/// The rule of statements in line order: each name is there, nobody else reads or writes it, and no counter
+/// is changed.
+pub(crate) fn check_statements(alloc: Global, readable: &NameTable, writable: &NameTable, uses: &[Use]) -> Result<(), RuleError>
+    ensures { Keeps result (first_fault (use_fault_among readable.now writable.now) (map use_view uses.now)) }
+{
+    let mut users = Users {
+        readers: NameTable::new(alloc),
+        writers: NameTable::new(alloc),
+    };
+    'uses: for found in uses {
+        users.note(readable, writable, found)?;
+    }
+    Ok(())
 }

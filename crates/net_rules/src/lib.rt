@@ -30,6 +30,7 @@ mod names;
 mod statements;
 mod sure;
 mod turns;
+mod used;
 mod uses;
 
 pub use error::RuleError;
