@@ -9,12 +9,12 @@ use Rattle.net_rules.specs.Tables.{Table, value_of}
 use Rattle.net_rules.specs.Found.{Use, use_view}
 use Rattle.net_rules.specs.Known.{first_user}
 
-chosen : (old : Option ℕ) (test : Bool) (user : ℕ) (rest : Option ℕ) → option_or old (cond test (Some user) rest) ≡ option_or (option_or old (cond test (Some user) None)) rest
+pub chosen : (old : Option ℕ) (test : Bool) (user : ℕ) (rest : Option ℕ) → option_or old (cond test (Some user) rest) ≡ option_or (option_or old (cond test (Some user) None)) rest
 chosen (Some n) test user rest = refl
 chosen None true user rest = refl
 chosen None false user rest = refl
 
-nothing_behind : (one : Option ℕ) → option_or one None ≡ one
+pub nothing_behind : (one : Option ℕ) → option_or one None ≡ one
 nothing_behind (Some n) = refl
 nothing_behind None = refl
 

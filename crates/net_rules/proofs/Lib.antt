@@ -15,4 +15,7 @@ mod Declaring
 mod Passing
 mod Knowing
 mod FirstUsers
+mod NumberingNames
+mod Members
+mod Joining
 mod Examples

@@ -1,9 +1,10 @@
 -- What the rules know of the lines before: from tables of names, without looking at all pairs.
-use Rattle.std.specs.Prelude.{◌≡◌, ℕ, ◌<◌, Bool, true, false, ◌||◌, ◌&&◌, not, List, [], ◌∷◌, Option, Some, None, ◌==◌, nat_lt, slice_index_or, if◌then◌else◌}
+use Rattle.std.specs.Prelude.{◌≡◌, ℕ, ◌+◌, ◌^◌, ◌<◌, ◌++◌, length, unwrap_or, Bool, true, false, ◌||◌, ◌&&◌, not, List, [], ◌∷◌, Option, Some, None, ◌==◌, nat_lt, slice_index_or, if◌then◌else◌}
 use Rattle.std.specs.List.{list_any}
 use Rattle.std.specs.Option.{is_some, option_or}
 use Rattle.std.specs.Str.{bytes_eq}
-use Rattle.net_tree.specs.Tree.{Name}
+use Rattle.net_tree.specs.Tree.{Name, Net}
+use Rattle.net_rules.specs.Uses.{as_list}
 use Rattle.net_rules.specs.declared.declarations.Kind as held_kind
 use Rattle.net_rules.specs.declared.declarations.Kind.TheVariants as kinds
 use Rattle.net_rules.specs.declared.declarations.Declaration as held
@@ -124,3 +125,18 @@ unused_fault_by readers writers earlier d = unused_by_tables readers writers d d
 
 abbrev pub order_fault_by : Table → Table → List Use → Use → Option BrokenRule
 order_fault_by channels writers earlier found = broken_where (early_by_tables channels writers found.process found.read) (ReadBeforeWritten found.line)
+
+-- ---- numbers
+
+-- fewer than 2^31 names
+abbrev pub HasFewNames : Net → Type 0
+HasFewNames net = length net.inputs + (length net.channels + length net.outputs) < 2 ^ 31
+
+-- the number that a table has for a name, or else this one
+abbrev pub number_by : Table → ℕ → Name → ℕ
+number_by table other name = unwrap_or (value_of table name) other
+
+-- the names that these statements use, one after the other
+abbrev pub names_used : (Use → Option Name) → List Use → List Name
+names_used use_of [] = []
+names_used use_of (found ∷ others) = as_list (use_of found) ++ names_used use_of others

@@ -24,7 +24,7 @@ pub(crate) struct FirstUsers<'n> {
 }
 
 // A process is the first user of a name, where there is no earlier one.
-fn note_first<'n>(users: &mut NameTable<'n>, used: Option<&'n Name>, process: u32) -> Result<(), NoMemory>
+pub(crate) fn note_first<'n>(users: &mut NameTable<'n>, used: Option<&'n Name>, process: u32) -> Result<(), NoMemory>
     ensures { OnOk result ((name : List ℕ) → value_of users.new name ≡ option_or (value_of users.old name) (if is_name name (option_map (λ name. name.now) used.entry) then Some process else None)) }
 {
     match used {
