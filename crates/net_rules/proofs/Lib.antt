@@ -18,4 +18,6 @@ mod FirstUsers
 mod NumberingNames
 mod Members
 mod Joining
+mod Keeping
+mod ByTables
 mod Examples

@@ -26,6 +26,7 @@ mod error;
 mod laws;
 mod known;
 mod joins;
+mod lines;
 mod loops;
 mod names;
 mod numbers;
