@@ -16,7 +16,7 @@ use Rattle.net_tree.specs.View.{block_view, process_view}
 use Rattle.net_rules.specs.Rules.{BrokenRule, JoinAfterSplit, broken_where, has_two, joins, joins_from, spread_behind}
 use Rattle.net_rules.specs.Found.{Use, use_view, use_of, uses_in, uses_inside}
 use Rattle.net_rules.specs.Known.{names_used}
-use Rattle.net_rules.proofs.Accepted.{IsIn, any_false}
+use Rattle.net_rules.proofs.SureBodies.{IsIn, any_false}
 use Rattle.net_rules.proofs.Members.{any_true, same_in, none_in, and_fixed}
 
 -- ---- sets of numbers

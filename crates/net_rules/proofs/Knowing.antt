@@ -10,7 +10,7 @@ use Rattle.std.proofs.lemmas.Bool.Decides.{nat_tests}
 use Rattle.net_tree.specs.Tree.{Name}
 use Rattle.std.specs.Cmp.Lexicographic.{bytes_decides}
 use Rattle.net_rules.specs.Rules.{BrokenRule, Unknown, ReadTwice, WrittenTwice, CounterChanged, broken_where, is_name, is_among}
-use Rattle.net_rules.proofs.Accepted.{neither, no_test}
+use Rattle.net_rules.proofs.SureBodies.{neither, no_test}
 use Rattle.net_rules.specs.Tables.{Table, value_of}
 use Rattle.net_rules.specs.Found.{Use}
 use Rattle.net_rules.specs.Known.{has, is_other, is_used_by_other, is_used_elsewhere, is_used_among, isnt_known, KnowsUsers, IsNoted, use_fault, use_fault_among}

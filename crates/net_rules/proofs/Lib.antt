@@ -6,7 +6,7 @@ pub mod Waiting
 pub mod Running
 pub mod Rounds
 pub mod Counted
-pub mod Accepted
+pub mod SureBodies
 pub mod Numbering
 mod Tables
 mod Sorting
@@ -18,6 +18,8 @@ mod FirstUsers
 mod NumberingNames
 mod Members
 mod Joining
+mod NumberingBlocks
 mod Keeping
+mod CheckedNets
 mod ByTables
 mod Examples

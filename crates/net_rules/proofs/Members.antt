@@ -2,7 +2,7 @@
 use Rattle.std.proofs.Common.{◌≡◌, Bool, true, false, List, [], ◌∷◌, inl, inr, refl, sym, ap, ◌∙◌}
 use Rattle.std.specs.Prelude.{◌||◌, ◌&&◌}
 use Rattle.std.specs.List.{list_any}
-use Rattle.net_rules.proofs.Accepted.{IsIn}
+use Rattle.net_rules.proofs.SureBodies.{IsIn}
 
 or_true : (b : Bool) → (b || true) ≡ true
 or_true true = refl

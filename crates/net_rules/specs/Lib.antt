@@ -11,3 +11,4 @@ pub mod Laws
 pub mod Tables
 pub mod Found
 pub mod Known
+pub mod CheckedNet

@@ -13,7 +13,7 @@ ghost use Rattle.net_rules.specs.Found.{use_view};
 ghost use Rattle.net_rules.specs.Known.{number_by, names_used};
 
 use crate::error::RuleError;
-use crate::names::NameTable;
+use crate::numbers::Numbers;
 use crate::statements::{Use, uses_of_body};
 use indexmap::IndexSet;
 use net_tree::{Block, Name, ProcessText};
@@ -27,13 +27,6 @@ struct Used {
     writes: Vec<u32>,
 }
 
-/// The numbers of names, and one that stands for each other name.
-#[derive(Clone, Copy)]
-pub(crate) struct Numbers<'t, 'n> {
-    pub(crate) table: &'t NameTable<'n>,
-    pub(crate) other: u32,
-}
-
 // The number of a name that is used, where one is, behind those before.
 fn push_number(numbers: Numbers, used: Option<&Name>, found: &mut Vec<u32>) -> Result<(), NoMemory>
     ensures { OnOk result (found.new.items ≡ found.old.items ++ map (number_by numbers.entry.table.now numbers.entry.other) (as_list (option_map (λ name. name.now) used.entry))) }
@@ -41,7 +34,7 @@ fn push_number(numbers: Numbers, used: Option<&Name>, found: &mut Vec<u32>) -> R
     match used {
         None => Ok(()),
         Some(name) => {
-            found.push(numbers.table.get(name).unwrap_or(numbers.other))?;
+            found.push(numbers.number(name))?;
             Ok(())
         }
     }

@@ -21,6 +21,7 @@
 //! nothing of programs and grids, and of tiles only how many there are.
 #![tactic(auto)]
 
+mod accepted;
 mod declarations;
 mod error;
 mod laws;
@@ -29,6 +30,7 @@ mod joins;
 mod lines;
 mod loops;
 mod names;
+mod numbered;
 mod numbers;
 mod statements;
 mod sure;
@@ -36,6 +38,7 @@ mod turns;
 mod used;
 mod uses;
 
+pub use accepted::{Checked, check};
 pub use error::RuleError;
 pub use laws::processes_wait;
 pub use loops::first_loop_without_read;

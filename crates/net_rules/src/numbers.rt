@@ -6,11 +6,11 @@ ghost use Rattle.std.specs.Str.{bytes_eq};
 ghost use Rattle.net_tree.specs.View.{port_view, channel_view, net_view};
 ghost use Rattle.net_rules.specs.Tables.{value_of};
 ghost use Rattle.net_rules.specs.Numbers.{number_of};
-ghost use Rattle.net_rules.specs.Known.{HasFewNames};
+ghost use Rattle.net_rules.specs.Known.{HasFewNames, number_by};
 
 use crate::names::NameTable;
 use crate::used::note_first;
-use net_tree::{ChannelLine, Net, PortLine};
+use net_tree::{ChannelLine, Name, Net, PortLine};
 use std::alloc::Global;
 use tis_base::NoMemory;
 
@@ -52,4 +52,20 @@ pub(crate) fn number_names(alloc: Global, net: &Net) -> Result<NameTable<'_>, No
     number_channels(net.channels.as_slice(), channels, &mut numbers)?;
     number_ports(net.outputs.as_slice(), outputs, &mut numbers)?;
     Ok(numbers)
+}
+
+/// The numbers of names, and one that stands for each other name.
+#[derive(Clone, Copy)]
+pub(crate) struct Numbers<'t, 'n> {
+    pub(crate) table: &'t NameTable<'n>,
+    pub(crate) other: u32,
+}
+
+impl Numbers<'_, '_> {
+    /// The number of a name.
+    pub(crate) fn number(self, name: &Name) -> u32
+        ensures { result ≡ number_by self.entry.table.now self.entry.other name.now }
+    {
+        self.table.get(name).unwrap_or(self.other)
+    }
 }
