@@ -14,7 +14,7 @@ use Rattle.net_rules.specs.Rules.{IsAccepted}
 use Rattle.net_rules.specs.Process.{Streams, cost, process_run}
 use Rattle.net_rules.specs.Sure.{changes_in, changes_inside, IsSureBlock, IsSure, HasValues}
 use Rattle.net_rules.specs.Laws.{Waits, ProcessesWait}
-use Rattle.net_rules.proofs.Accepted.{IsIn, CanRead, bodies_are_sure}
+use Rattle.net_rules.proofs.SureBodies.{IsIn, CanRead, bodies_are_sure}
 use Rattle.net_rules.proofs.Counted.{stand_in, one_less}
 use Rattle.net_rules.proofs.Rounds.{waits}
 

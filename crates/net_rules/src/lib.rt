@@ -21,13 +21,24 @@
 //! nothing of programs and grids, and of tiles only how many there are.
 #![tactic(auto)]
 
+mod accepted;
+mod declarations;
 mod error;
 mod laws;
+mod known;
+mod joins;
+mod lines;
 mod loops;
+mod names;
+mod numbered;
+mod numbers;
+mod statements;
 mod sure;
 mod turns;
+mod used;
 mod uses;
 
+pub use accepted::{Checked, check};
 pub use error::RuleError;
 pub use laws::processes_wait;
 pub use loops::first_loop_without_read;
