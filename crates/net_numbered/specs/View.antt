@@ -1,5 +1,5 @@
 -- What contracts see of the body of a process whose names are numbers: the plain tree.
-use Rattle.std.specs.Prelude.{ℕ, List, [], ◌∷◌, map}
+use Rattle.std.specs.Prelude.{ℕ, List, [], ◌∷◌}
 use Rattle.net_numbered.specs.declared.tree.NumberedStatement as held
 use Rattle.net_numbered.specs.declared.tree.NumberedStatement.TheOpen as level
 use Rattle.net_numbered.specs.declared.tree.NumberedStatement.TheFolds as folds
@@ -47,4 +47,3 @@ numbered_statement = folds.fold-NumberedStatement (Statement ℕ) (Block ℕ) Li
 -- a block as it is held
 abbrev pub numbered_block : held_block.NumberedBlock → Block ℕ
 numbered_block = folds.fold-NumberedBlock (Statement ℕ) (Block ℕ) Lined statement_level block_level lined_level
-

@@ -31,3 +31,6 @@
 mod tree;
 
 pub use tree::{NumberedBlock, NumberedStatement};
+
+#[cfg(test)]
+mod tests;

@@ -1,5 +1,5 @@
 -- What is wrong with the lines of a network, by tables.
-use Rattle.std.proofs.Common.{◌≡◌, ℕ, zero, suc, ◌+◌, Bool, true, false, cond, List, [], ◌∷◌, ◌++◌, map, Option, Some, None, refl, sym, ap, ◌∙◌}
+use Rattle.std.proofs.Common.{◌≡◌, ℕ, ◌+◌, Bool, true, false, cond, List, [], ◌∷◌, ◌++◌, map, Option, Some, None, refl, sym, ap, ◌∙◌}
 use Rattle.std.specs.Prelude.{◌||◌, ◌&&◌, not, ◌==◌}
 use Rattle.std.specs.List.{list_any, position, position_from}
 use Rattle.std.specs.Option.{is_some, option_or}
@@ -7,7 +7,7 @@ use Rattle.std.proofs.lemmas.List.{map-append}
 use Rattle.std.proofs.lemmas.Iterator.Adapters.{position_from-zero}
 use Rattle.net_tree.specs.declared.tree.Var.{Var}
 use Rattle.net_tree.specs.declared.tree.Var.TheVariants.{X, Y}
-use Rattle.net_tree.specs.Tree.{Name, Statement, Get, GetAdd, GetSub, Put, PutNumber, Move, Set, Add, Sub, Neg, Double, Copy, Swap, If, While, Count, Block, Empty, Then, ProcessText, ChannelLine, Net}
+use Rattle.net_tree.specs.Tree.{Name, Statement, Get, GetAdd, GetSub, Put, PutNumber, Move, Set, Add, Sub, Neg, Double, Copy, Swap, If, While, Count, Block, Empty, Then, ProcessText, Net}
 use Rattle.net_rules.specs.Uses.{read_of, written_of, is_same_var, changes, as_list, reads_in, writes_in}
 use Rattle.net_rules.specs.Numbers.{readable, writable}
 use Rattle.net_rules.specs.Rules.{BrokenRule, Unknown, ReadTwice, WrittenTwice, CounterChanged, Unread, Unwritten, ReadBeforeWritten, broken_where, by_line, first_among, first_fault, Kind, Input, Channel, Output, Process, Declaration, declarations, Placed, placed_in, placed_inside, placed_from, statements, is_name, is_among, isnt_among, used_elsewhere, statement_fault, is_read, is_written, unused_by, unused_fault, writer_of, is_before, reads_too_early, order_fault}

@@ -1,5 +1,5 @@
 -- All rules, one after the other, and the numbers of a network.
-use Rattle.std.proofs.Common.{◌≡◌, ℕ, ◌+◌, List, ◌++◌, map, length, Option, None, false, refl, sym, ap, ◌∙◌, arith}
+use Rattle.std.proofs.Common.{◌≡◌, ℕ, ◌+◌, ◌++◌, map, length, Option, None, sym, ap, ◌∙◌, arith}
 use Rattle.std.specs.Prelude.{unwrap_or, Result}
 use Rattle.std.specs.Option.{option_or}
 use Rattle.std.proofs.Math.Path.{fun_ext}
@@ -7,7 +7,7 @@ use Rattle.std.proofs.lemmas.List.{length-map, length-append}
 use Rattle.net_tree.specs.Tree.{Name, PortLine, ChannelLine, Net}
 use Rattle.net_rules.specs.declared.error.RuleError.{RuleError}
 use Rattle.net_rules.specs.Broken.{Keeps}
-use Rattle.net_rules.specs.Rules.{BrokenRule, joins_from}
+use Rattle.net_rules.specs.Rules.{BrokenRule}
 use Rattle.net_rules.specs.Numbers.{all_names, number_of, number_in, numbered, block_with}
 use Rattle.net_rules.specs.Tables.{Table, value_of}
 use Rattle.net_rules.specs.Known.{number_by}

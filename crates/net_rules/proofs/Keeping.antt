@@ -1,6 +1,6 @@
 -- Rules one after the other, and tables of two lists of names.
 use Rattle.std.proofs.Common.{◌≡◌, Bool, true, false, List, [], ◌∷◌, ◌++◌, map, Option, None, refl, sym, ap, subst, ◌∙◌}
-use Rattle.std.specs.Prelude.{◌||◌, Result, Ok, Err}
+use Rattle.std.specs.Prelude.{◌||◌, Result}
 use Rattle.std.specs.List.{list_any}
 use Rattle.std.specs.Option.{option_or}
 use Rattle.std.specs.Str.{bytes_eq}
@@ -10,7 +10,6 @@ use Rattle.net_rules.specs.Broken.{IsBroken, Keeps}
 use Rattle.net_rules.specs.Rules.{BrokenRule, is_among}
 use Rattle.net_rules.specs.Tables.{Table}
 use Rattle.net_rules.specs.Known.{has, IsTableOf}
-use Rattle.net_rules.proofs.Declaring.{broken_first}
 
 -- an error behind a rule that isn't broken
 pub broken_behind : (error : RuleError) (one other : Option BrokenRule) → one ≡ None → IsBroken error other → IsBroken error (option_or one other)

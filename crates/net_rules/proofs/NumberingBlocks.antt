@@ -1,7 +1,7 @@
 -- A walk through a block that puts numbers in place of its names.
 use Rattle.std.proofs.Common.{◌≡◌, ◌<◌, ◌≤◌, ℕ, zero, suc, ◌+◌, List, [], ◌∷◌, ◌++◌, length, drop, map, get_or, refl, sym, ap, subst, ◌∙◌, arith}
 use Rattle.std.specs.Prelude.{Some, slice_get, option_map, All}
-use Rattle.std.proofs.lemmas.List.{append-nil, append_assoc, map-append, drop_all, drop_more}
+use Rattle.std.proofs.lemmas.List.{append_assoc, map-append, drop_all, drop_more}
 use Rattle.std.proofs.lemmas.List.Elements.{All-cons}
 use Rattle.net_tree.specs.Tree.{Name, Statement, Block, Empty, Then, joined, with_last, statements_of, ProcessText}
 use Rattle.net_tree.specs.View.{block_with as block_of, block_view, process_view}

@@ -1,11 +1,11 @@
 -- A stable sort by line gives the elements by line: there is one such order.
-use Rattle.std.proofs.Common.{◌≡◌, ◌≤◌, ◌<◌, ℕ, zero, suc, ◌+◌, Bool, true, false, cond, List, [], ◌∷◌, length, map, filter, refl, sym, ap, subst, ◌∙◌, arith, nat_le}
-use Rattle.std.specs.Prelude.{not, ◌&&◌, slice_index_or}
+use Rattle.std.proofs.Common.{◌≡◌, ◌≤◌, ◌<◌, ℕ, suc, Bool, true, false, cond, List, [], ◌∷◌, length, map, filter, refl, sym, ap, subst, ◌∙◌, arith, nat_le}
+use Rattle.std.specs.Prelude.{slice_index_or}
 use Rattle.std.specs.Ordering.{is_lt, nat_cmp}
 use Rattle.std.specs.List.Sorted.{ties, IsNonDecreasingBy}
 use Rattle.std.proofs.lemmas.Bool.Decides.{nat_tests}
 use Rattle.net_rules.specs.Rules.{placed_by, by_line}
-use Rattle.net_rules.proofs.LineOrder.{AtLeast, Ascends, line_ascends, is_small, is_large}
+use Rattle.net_rules.proofs.LineOrder.{AtLeast, Ascends, line_ascends}
 
 module _ {X : Type 0} (line : X → ℕ) where
   -- whether one stands before another by its line

@@ -1,6 +1,6 @@
 -- A network that was checked, and what its check says.
-use Rattle.std.specs.Prelude.{◌≡◌, ℕ, ◌+◌, ◌<◌, ◌^◌, length, map, All, Result, Ok, Err}
-use Rattle.net_tree.specs.Tree.{Name, Net, ProcessText}
+use Rattle.std.specs.Prelude.{◌≡◌, ◌<◌, ◌^◌, length, map, Result, Ok, Err}
+use Rattle.net_tree.specs.Tree.{Name, Net}
 use Rattle.net_tree.specs.View.{net_view}
 use Rattle.net_numbered.specs.View.{numbered_block}
 use Rattle.net_rules.specs.declared.accepted.Checked as held

@@ -1,6 +1,5 @@
 -- The statements of a network as the rules look at them: what each reads, writes and changes, found without putting them in order.
-use Rattle.std.specs.Prelude.{ℕ, ◌+◌, Bool, false, ◌||◌, ◌&&◌, List, [], ◌∷◌, ◌++◌, Option, Some, None, option_map}
-use Rattle.net_tree.specs.declared.tree.Var.{Var}
+use Rattle.std.specs.Prelude.{ℕ, ◌+◌, Bool, false, ◌||◌, ◌&&◌, List, [], ◌∷◌, ◌++◌, Option, option_map}
 use Rattle.net_tree.specs.declared.tree.Var.TheVariants.{X, Y}
 use Rattle.net_tree.specs.Tree.{Name, Statement, If, While, Count, Block, Empty, Then, ProcessText}
 use Rattle.net_rules.specs.declared.statements.Use as held

@@ -1,5 +1,5 @@
 -- What the rules know of the lines before: from tables of names, without looking at all pairs.
-use Rattle.std.specs.Prelude.{◌≡◌, ℕ, ◌+◌, ◌^◌, ◌<◌, ◌++◌, length, unwrap_or, Bool, true, false, ◌||◌, ◌&&◌, not, List, [], ◌∷◌, Option, Some, None, ◌==◌, nat_lt, slice_index_or, if◌then◌else◌}
+use Rattle.std.specs.Prelude.{◌≡◌, ℕ, ◌+◌, ◌^◌, ◌<◌, ◌++◌, length, unwrap_or, Bool, false, ◌&&◌, not, List, [], ◌∷◌, Option, Some, None, ◌==◌, nat_lt, slice_index_or, if◌then◌else◌}
 use Rattle.std.specs.List.{list_any}
 use Rattle.std.specs.Option.{is_some, option_or}
 use Rattle.std.specs.Str.{bytes_eq}
@@ -8,7 +8,7 @@ use Rattle.net_rules.specs.Uses.{as_list}
 use Rattle.net_rules.specs.declared.declarations.Kind as held_kind
 use Rattle.net_rules.specs.declared.declarations.Kind.TheVariants as kinds
 use Rattle.net_rules.specs.declared.declarations.Declaration as held
-use Rattle.net_rules.specs.Rules.{BrokenRule, Unknown, Repeated, SamePlace, ReadTwice, WrittenTwice, CounterChanged, Unread, Unwritten, ReadBeforeWritten, broken_where, Kind, Input, Channel, Output, Process, Declaration, is_process, share_place, is_name, is_among}
+use Rattle.net_rules.specs.Rules.{BrokenRule, Unknown, ReadTwice, WrittenTwice, CounterChanged, Unread, Unwritten, ReadBeforeWritten, broken_where, Kind, Input, Channel, Output, Process, Declaration, is_process, share_place, is_name, is_among}
 use Rattle.net_rules.specs.Tables.{Table, value_of}
 use Rattle.net_rules.specs.Found.{Use}
 

@@ -1,5 +1,5 @@
 //! Networks that keep the rules.
-ghost use Rattle.std.specs.Prelude.{◌≡◌, ◌<◌, ℕ, List, length, slice_get, Some, map};
+ghost use Rattle.std.specs.Prelude.{◌≡◌, ◌<◌, ℕ, List, length, slice_get, Some, map, IsTrue};
 ghost use Rattle.net_tree.specs.View.{net_view};
 ghost use Rattle.net_numbered.specs.View.{numbered_block};
 ghost use Rattle.net_rules.specs.Broken.{Keeps};
@@ -18,6 +18,9 @@ use crate::turns::sure_reads;
 use net_numbered::NumberedBlock;
 use net_tree::{Name, Net};
 use std::alloc::Global;
+
+// More names or processes than this a network that is checked doesn't have.
+const MOST: usize = 0x8000_0000;
 
 /// A network that keeps each rule, with the numbers of its names.
 #[derive(Drop)]
@@ -39,6 +42,19 @@ fn check_rules(alloc: Global, net: &Net, numbers: Numbers) -> Result<(), RuleErr
         return Err(error);
     }
     check_joins(alloc, numbers, processes)
+}
+
+/// Whether a network has few enough names and processes to be checked: fewer than 2^31 of each.
+pub fn is_small(net: &Net) -> bool
+    ensures { IsTrue result → IsSmallNet (net_view net.now) }
+{
+    let names = net
+        .inputs
+        .len()
+        .saturating_add(net.channels.len())
+        .saturating_add(net.outputs.len());
+    let processes = net.processes.len();
+    names < MOST && processes < MOST
 }
 
 /// The network with the numbers of its names, where it keeps each rule; else the first rule that it breaks.

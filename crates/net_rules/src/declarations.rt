@@ -32,7 +32,10 @@ pub(crate) struct Declaration<'n> {
 }
 
 // The inputs behind what was declared before.
-fn add_inputs<'n>(ports: &'n [PortLine], declared: &mut Vec<Declaration<'n>>) -> Result<(), NoMemory>
+fn add_inputs<'n>(
+    ports: &'n [PortLine],
+    declared: &mut Vec<Declaration<'n>>,
+) -> Result<(), NoMemory>
     ensures { OnOk result (map declaration_view declared.new.items ≡ map declaration_view declared.old.items ++ map input_declared (map port_view ports.now)) }
 {
     'ports: for port in ports {
@@ -46,7 +49,10 @@ fn add_inputs<'n>(ports: &'n [PortLine], declared: &mut Vec<Declaration<'n>>) ->
 }
 
 // The channels behind what was declared before.
-fn add_channels<'n>(channels: &'n [ChannelLine], declared: &mut Vec<Declaration<'n>>) -> Result<(), NoMemory>
+fn add_channels<'n>(
+    channels: &'n [ChannelLine],
+    declared: &mut Vec<Declaration<'n>>,
+) -> Result<(), NoMemory>
     ensures { OnOk result (map declaration_view declared.new.items ≡ map declaration_view declared.old.items ++ map channel_declared (map channel_view channels.now)) }
 {
     'channels: for channel in channels {
@@ -60,7 +66,10 @@ fn add_channels<'n>(channels: &'n [ChannelLine], declared: &mut Vec<Declaration<
 }
 
 // The outputs behind what was declared before.
-fn add_outputs<'n>(ports: &'n [PortLine], declared: &mut Vec<Declaration<'n>>) -> Result<(), NoMemory>
+fn add_outputs<'n>(
+    ports: &'n [PortLine],
+    declared: &mut Vec<Declaration<'n>>,
+) -> Result<(), NoMemory>
     ensures { OnOk result (map declaration_view declared.new.items ≡ map declaration_view declared.old.items ++ map output_declared (map port_view ports.now)) }
 {
     'ports: for port in ports {
@@ -74,7 +83,10 @@ fn add_outputs<'n>(ports: &'n [PortLine], declared: &mut Vec<Declaration<'n>>) -
 }
 
 // The processes behind what was declared before.
-fn add_processes<'n>(processes: &'n [ProcessText], declared: &mut Vec<Declaration<'n>>) -> Result<(), NoMemory>
+fn add_processes<'n>(
+    processes: &'n [ProcessText],
+    declared: &mut Vec<Declaration<'n>>,
+) -> Result<(), NoMemory>
     ensures { OnOk result (map declaration_view declared.new.items ≡ map declaration_view declared.old.items ++ map process_declared (map process_view processes.now)) }
 {
     'processes: for process in processes {
@@ -146,7 +158,12 @@ fn take_place(taken: &mut [bool; 256], position: u8, line: usize) -> Result<(), 
 }
 
 // A name and a position that aren't taken are taken from now on.
-fn take_port<'n>(names: &mut NameTable<'n>, places: &mut [bool; 256], declaration: &Declaration<'n>, position: u8) -> Result<(), RuleError>
+fn take_port<'n>(
+    names: &mut NameTable<'n>,
+    places: &mut [bool; 256],
+    declaration: &Declaration<'n>,
+    position: u8,
+) -> Result<(), RuleError>
     ensures fault { Keeps result (option_or (broken_where (has names.old declaration.now.name.now) (Repeated declaration.now.line)) (broken_where (slice_index_or places.old position false) (SamePlace declaration.now.line))) }
     ensures named { OnOk result ((name : List ℕ) → has names.new name ≡ (bytes_eq name declaration.now.name.now || has names.old name)) }
     ensures placed { OnOk result (places.new ≡ slice_set places.old position true) }

@@ -118,7 +118,13 @@ fn spread_writes(spread: &mut IndexSet<u32>, used: &Used) -> Result<(), NoMemory
 }
 
 // Looks at one more process.
-fn check_process(alloc: Global, numbers: Numbers, process: u32, body: &Block, spread: &mut IndexSet<u32>) -> Result<(), RuleError>
+fn check_process(
+    alloc: Global,
+    numbers: Numbers,
+    process: u32,
+    body: &Block,
+    spread: &mut IndexSet<u32>,
+) -> Result<(), RuleError>
     ensures fault { Keeps result (broken_where (joins_spread (has_number nat_eq spread.old) (block_with (number_by numbers.entry.table.now numbers.entry.other) (block_view body.now))) (JoinAfterSplit process)) }
     ensures behind { OnOk result ((number : ℕ) → has_number nat_eq spread.new number ≡ spread_behind (has_number nat_eq spread.old) (block_with (number_by numbers.entry.table.now numbers.entry.other) (block_view body.now)) number) }
 {
@@ -132,7 +138,11 @@ fn check_process(alloc: Global, numbers: Numbers, process: u32, body: &Block, sp
 }
 
 /// The rule that no process reads a name that was spread and another one, process by process.
-pub(crate) fn check_joins(alloc: Global, numbers: Numbers, processes: &[ProcessText]) -> Result<(), RuleError>
+pub(crate) fn check_joins(
+    alloc: Global,
+    numbers: Numbers,
+    processes: &[ProcessText],
+) -> Result<(), RuleError>
     requires { length processes.now < 2 ^ 32 }
     ensures { Keeps result (joins_from (λ number. false) 0 (map (λ process. block_with (number_by numbers.entry.table.now numbers.entry.other) process.body) (map process_view processes.now))) }
 {

@@ -36,7 +36,11 @@ fn add_channels<'n>(channels: &'n [ChannelLine], table: &mut NameTable<'n>) -> R
 }
 
 /// The names of these ports and channels.
-pub(crate) fn names_of<'n>(alloc: Global, ports: &'n [PortLine], channels: &'n [ChannelLine]) -> Result<NameTable<'n>, NoMemory>
+pub(crate) fn names_of<'n>(
+    alloc: Global,
+    ports: &'n [PortLine],
+    channels: &'n [ChannelLine],
+) -> Result<NameTable<'n>, NoMemory>
     ensures { IfOk result (λ table. (name : List ℕ) → has table name ≡ (is_among (map (λ p. p.name) (map channel_view channels.now)) name || is_among (map (λ p. p.name) (map port_view ports.now)) name)) }
 {
     let mut table = NameTable::new(alloc);
@@ -76,7 +80,11 @@ fn is_other(user: Option<u32>, process: u32) -> bool
 }
 
 // Whether another process uses a name already; if none does, this one does from now on.
-fn note_user<'n>(users: &mut NameTable<'n>, used: Option<&'n Name>, process: u32) -> Result<bool, NoMemory>
+fn note_user<'n>(
+    users: &mut NameTable<'n>,
+    used: Option<&'n Name>,
+    process: u32,
+) -> Result<bool, NoMemory>
     ensures other { IfOk result (λ other. other ≡ is_used_by_other users.old process (option_map (λ name. name.now) used.entry)) }
     ensures noted { OnOk result (IsNoted users.old users.new (option_map (λ name. name.now) used.entry) process) }
 {
@@ -99,7 +107,12 @@ struct Users<'n> {
 
 impl<'n> Users<'n> {
     // Looks at one more statement by the tables, and notes what it uses.
-    fn note(&mut self, readable: &NameTable, writable: &NameTable, found: &Use<'n>) -> Result<(), RuleError>
+    fn note(
+        &mut self,
+        readable: &NameTable,
+        writable: &NameTable,
+        found: &Use<'n>,
+    ) -> Result<(), RuleError>
         ensures fault { Keeps result (use_fault readable.now writable.now self.old.readers self.old.writers (use_view found.now)) }
         ensures read { OnOk result (IsNoted self.old.readers self.new.readers (use_view found.now).read found.now.process) }
         ensures written { OnOk result (IsNoted self.old.writers self.new.writers (use_view found.now).written found.now.process) }
@@ -124,7 +137,12 @@ impl<'n> Users<'n> {
 
 /// The rule of statements in line order: each name is there, nobody else reads or writes it, and no counter
 /// is changed.
-pub(crate) fn check_statements(alloc: Global, readable: &NameTable, writable: &NameTable, uses: &[Use]) -> Result<(), RuleError>
+pub(crate) fn check_statements(
+    alloc: Global,
+    readable: &NameTable,
+    writable: &NameTable,
+    uses: &[Use],
+) -> Result<(), RuleError>
     ensures { Keeps result (first_fault (use_fault_among readable.now writable.now) (map use_view uses.now)) }
 {
     let mut users = Users {

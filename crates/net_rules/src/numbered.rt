@@ -26,7 +26,11 @@ fn held(value: Value) -> Value
 
 // A statement with numbers in place of names.
 #[cycle(numbering)]
-fn number_statement(alloc: Global, numbers: Numbers, statement: &Statement) -> Result<NumberedStatement, NoMemory>
+fn number_statement(
+    alloc: Global,
+    numbers: Numbers,
+    statement: &Statement,
+) -> Result<NumberedStatement, NoMemory>
     ensures seen { Gives numbered_statement result (statement_with (number_by numbers.entry.table.now numbers.entry.other) (statement_view statement.now)) }
     ensures values { OnOk result (StatementHasValues (statement_view statement.now)) }
 {
@@ -83,7 +87,11 @@ fn number_block(alloc: Global, numbers: Numbers, block: &Block) -> Result<Number
 }
 
 /// The bodies of processes with numbers in place of names.
-pub(crate) fn number_processes(alloc: Global, numbers: Numbers, processes: &[ProcessText]) -> Result<Vec<NumberedBlock>, NoMemory>
+pub(crate) fn number_processes(
+    alloc: Global,
+    numbers: Numbers,
+    processes: &[ProcessText],
+) -> Result<Vec<NumberedBlock>, NoMemory>
     ensures seen { Gives (λ bodies. map numbered_block bodies.items) result (map (λ process. block_with (number_by numbers.entry.table.now numbers.entry.other) process.body) (map process_view processes.now)) }
     ensures values { OnOk result (All (λ (process : SeenProcess). HasValues process.body) (map process_view processes.now)) }
 {

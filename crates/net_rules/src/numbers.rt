@@ -15,7 +15,11 @@ use std::alloc::Global;
 use tis_base::NoMemory;
 
 // Gives the names of ports the numbers from this one on, where they have none.
-fn number_ports<'n>(ports: &'n [PortLine], first: u32, numbers: &mut NameTable<'n>) -> Result<(), NoMemory>
+fn number_ports<'n>(
+    ports: &'n [PortLine],
+    first: u32,
+    numbers: &mut NameTable<'n>,
+) -> Result<(), NoMemory>
     requires { first + length ports.now < 2 ^ 32 }
     ensures { OnOk result ((name : List ℕ) → value_of numbers.new name ≡ option_or (value_of numbers.old name) (position_from (bytes_eq name) first (map (λ p. p.name) (map port_view ports.now)))) }
 {
@@ -28,7 +32,11 @@ fn number_ports<'n>(ports: &'n [PortLine], first: u32, numbers: &mut NameTable<'
 }
 
 // Gives the names of channels the numbers from this one on, where they have none.
-fn number_channels<'n>(channels: &'n [ChannelLine], first: u32, numbers: &mut NameTable<'n>) -> Result<(), NoMemory>
+fn number_channels<'n>(
+    channels: &'n [ChannelLine],
+    first: u32,
+    numbers: &mut NameTable<'n>,
+) -> Result<(), NoMemory>
     requires { first + length channels.now < 2 ^ 32 }
     ensures { OnOk result ((name : List ℕ) → value_of numbers.new name ≡ option_or (value_of numbers.old name) (position_from (bytes_eq name) first (map (λ p. p.name) (map channel_view channels.now)))) }
 {

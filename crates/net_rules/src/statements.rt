@@ -60,14 +60,24 @@ fn inside_count(place: Place, var: Var) -> Place
     ensures y { result.in_y ≡ (place.in_y || is_same_var Y var) }
 {
     match var {
-        Var::X => Place { in_x: true, ..place },
-        Var::Y => Place { in_y: true, ..place },
+        Var::X => Place {
+            in_x: true,
+            ..place
+        },
+        Var::Y => Place {
+            in_y: true,
+            ..place
+        },
     }
 }
 
 // The statements in the blocks of a statement, behind those that were found before.
 #[cycle(statements)]
-fn find_inside<'n>(place: Place, statement: &'n Statement, found: &mut Vec<Use<'n>>) -> Result<(), NoMemory>
+fn find_inside<'n>(
+    place: Place,
+    statement: &'n Statement,
+    found: &mut Vec<Use<'n>>,
+) -> Result<(), NoMemory>
     ensures { OnOk result (map use_view found.new.items ≡ map use_view found.old.items ++ uses_inside place.process place.in_x place.in_y (statement_view statement.now)) }
 {
     match statement {
@@ -83,7 +93,11 @@ fn find_inside<'n>(place: Place, statement: &'n Statement, found: &mut Vec<Use<'
 
 // The statements of a block, each before those in its blocks, behind those that were found before.
 #[cycle(statements)]
-fn find_in_block<'n>(place: Place, block: &'n Block, found: &mut Vec<Use<'n>>) -> Result<(), NoMemory>
+fn find_in_block<'n>(
+    place: Place,
+    block: &'n Block,
+    found: &mut Vec<Use<'n>>,
+) -> Result<(), NoMemory>
     ensures { OnOk result (map use_view found.new.items ≡ map use_view found.old.items ++ uses_in place.process place.in_x place.in_y (block_view block.now)) }
 {
     'statements: for index in 0..block.len() {
@@ -95,7 +109,11 @@ fn find_in_block<'n>(place: Place, block: &'n Block, found: &mut Vec<Use<'n>>) -
 }
 
 /// The statements of a body, of the process with this number.
-pub(crate) fn uses_of_body(alloc: Global, process: u32, body: &Block) -> Result<Vec<Use<'_>>, NoMemory>
+pub(crate) fn uses_of_body(
+    alloc: Global,
+    process: u32,
+    body: &Block,
+) -> Result<Vec<Use<'_>>, NoMemory>
     ensures { Gives (λ uses. map use_view uses.items) result (uses_in process false false (block_view body.now)) }
 {
     let mut found = Vec::new(alloc);
@@ -109,7 +127,10 @@ pub(crate) fn uses_of_body(alloc: Global, process: u32, body: &Block) -> Result<
 }
 
 /// The statements of these processes, in the order of the processes and then as they stand.
-pub(crate) fn uses_of_all(alloc: Global, processes: &[ProcessText]) -> Result<Vec<Use<'_>>, NoMemory>
+pub(crate) fn uses_of_all(
+    alloc: Global,
+    processes: &[ProcessText],
+) -> Result<Vec<Use<'_>>, NoMemory>
     requires { length processes.now < 2 ^ 32 }
     ensures { Gives (λ uses. map use_view uses.items) result (uses_from 0 (map process_view processes.now)) }
 {

@@ -24,7 +24,11 @@ pub(crate) struct FirstUsers<'n> {
 }
 
 // A process is the first user of a name, where there is no earlier one.
-pub(crate) fn note_first<'n>(users: &mut NameTable<'n>, used: Option<&'n Name>, process: u32) -> Result<(), NoMemory>
+pub(crate) fn note_first<'n>(
+    users: &mut NameTable<'n>,
+    used: Option<&'n Name>,
+    process: u32,
+) -> Result<(), NoMemory>
     ensures { OnOk result ((name : List ℕ) → value_of users.new name ≡ option_or (value_of users.old name) (if is_name name (option_map (λ name. name.now) used.entry) then Some process else None)) }
 {
     match used {
@@ -100,16 +104,17 @@ fn check_read(channels: &NameTable, writers: &NameTable, found: &Use) -> Result<
         Some(name) => {
             let is_channel = channels.get(name).is_some();
             let before = is_before(writers.get(name), found.process);
-            forbid(
-                is_channel && !before,
-                RuleError::ReadBeforeWritten { line },
-            )
+            forbid(is_channel && !before, RuleError::ReadBeforeWritten { line })
         }
     }
 }
 
 /// The rule that the writer of each channel stands before its reader, in line order.
-pub(crate) fn check_order(channels: &NameTable, writers: &NameTable, uses: &[Use]) -> Result<(), RuleError>
+pub(crate) fn check_order(
+    channels: &NameTable,
+    writers: &NameTable,
+    uses: &[Use],
+) -> Result<(), RuleError>
     ensures { Keeps result (first_fault (order_fault_by channels.now writers.now) (map use_view uses.now)) }
 {
     'uses: for found in uses {

@@ -1,4 +1,4 @@
-use Rattle.std.proofs.Common.{◌+◌, map, sym, refl, ap, subst, ◌∙◌, arith}
+use Rattle.std.proofs.Common.{◌+◌, map, refl, ap, subst, ◌∙◌, arith}
 use Rattle.std.specs.Prelude.{All}
 use Rattle.std.proofs.lemmas.List.{length-map}
 use Rattle.net_tree.specs.Tree.{ProcessText}

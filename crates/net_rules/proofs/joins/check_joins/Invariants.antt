@@ -1,5 +1,5 @@
 -- The processes so far keep the rule, and the set has the numbers that they spread.
-use Rattle.std.proofs.Common.{◌≡◌, ℕ, false, drop, map, nat_eq}
+use Rattle.std.proofs.Common.{◌≡◌, false, drop, map, nat_eq}
 use Rattle.indexmap.specs.IndexSet.{contains}
 use Rattle.net_tree.specs.View.{process_view}
 use Rattle.net_rules.specs.Numbers.{block_with}

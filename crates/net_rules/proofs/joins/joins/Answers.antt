@@ -1,4 +1,4 @@
-use Rattle.std.proofs.Common.{List, ℕ, nat_eq, ap, ◌∙◌}
+use Rattle.std.proofs.Common.{nat_eq, ap, ◌∙◌}
 use Rattle.std.specs.List.{list_any}
 use Rattle.indexmap.specs.IndexSet.{contains}
 use Rattle.net_rules.specs.Rules.{has_two}

@@ -1,7 +1,6 @@
-use Rattle.std.proofs.Common.{◌∷◌, [], refl, sym, subst, ◌∙◌, arith, Option}
+use Rattle.std.proofs.Common.{◌∷◌, [], refl, sym, subst, ◌∙◌, arith}
 use Rattle.std.proofs.lemmas.Result.{err_from_is_err_and}
 use Rattle.net_rules.specs.Broken.{IsBroken}
-use Rattle.net_rules.specs.Rules.{BrokenRule}
 use Rattle.net_rules.specs.Found.{use_view}
 use Rattle.net_rules.specs.Known.{use_fault_among}
 use Rattle.net_rules.proofs.Passing.{refused, passed}

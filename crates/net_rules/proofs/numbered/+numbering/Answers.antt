@@ -1,5 +1,5 @@
-use Rattle.std.proofs.Common.{◌≡◌, ◌<◌, ◌≤◌, ℕ, length, sym, ap, subst, ◌∙◌}
-use Rattle.net_tree.specs.Tree.{joined, statements_of, with_last}
+use Rattle.std.proofs.Common.{◌<◌, ◌≤◌, ℕ, length, sym, ap, subst, ◌∙◌}
+use Rattle.net_tree.specs.Tree.{joined, statements_of}
 use Rattle.net_tree.specs.View.{block_view, statement_view, block_with as block_of}
 use Rattle.net_numbered.specs.View.{numbered_block, numbered_statement}
 use Rattle.net_rules.specs.Numbers.{block_with}

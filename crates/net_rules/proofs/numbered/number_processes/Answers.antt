@@ -1,10 +1,4 @@
-use Rattle.std.proofs.Common.{[], map, sym, ap, subst, ◌∙◌, arith}
-use Rattle.std.specs.Prelude.{All}
-use Rattle.std.proofs.lemmas.List.{append-nil, drop_all}
-use Rattle.net_tree.specs.Tree.{ProcessText}
-use Rattle.net_tree.specs.View.{process_view}
-use Rattle.net_rules.specs.Numbers.{block_with}
-use Rattle.net_rules.specs.Sure.{HasValues}
+use Rattle.std.proofs.Common.{arith}
 use Rattle.net_rules.specs.Known.{number_by}
 use Rattle.net_rules.proofs.NumberingBlocks.{process_next, process_values}
 use Rattle.net_rules.proofs.numbered.number_processes.Goals as goal

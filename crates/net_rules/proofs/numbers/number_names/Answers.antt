@@ -1,9 +1,9 @@
-use Rattle.std.proofs.Common.{List, [], ℕ, map, length, ◌+◌, ap, ◌∙◌, arith}
+use Rattle.std.proofs.Common.{List, [], ℕ, map, ◌+◌, ap, ◌∙◌, arith}
 use Rattle.std.specs.List.{position_from}
 use Rattle.std.specs.Option.{option_or}
 use Rattle.std.specs.Str.{bytes_eq}
 use Rattle.std.proofs.lemmas.List.{length-map}
-use Rattle.net_tree.specs.Tree.{PortLine, ChannelLine, Name}
+use Rattle.net_tree.specs.Tree.{PortLine, ChannelLine}
 use Rattle.net_tree.specs.View.{port_view, channel_view}
 use Rattle.net_rules.specs.Tables.{value_of}
 use Rattle.net_rules.proofs.NumberingNames.{in_three}

@@ -1,10 +1,9 @@
-use Rattle.std.proofs.Common.{◌<◌, ◌≤◌, ◌++◌, ℕ, length, map, ap, subst, sym, ◌∙◌}
-use Rattle.net_tree.specs.Tree.{statements_of}
+use Rattle.std.proofs.Common.{◌<◌, ◌++◌, ℕ, map, ap, subst}
 use Rattle.net_tree.specs.View.{block_view, statement_view}
 use Rattle.net_rules.specs.Found.{use_view}
 use Rattle.net_rules.specs.Sizes.{block_size, statement_size}
 use Rattle.net_rules.proofs.Walks.{smaller}
-use Rattle.net_rules.proofs.Finding.{all_of, found_next, all_found}
+use Rattle.net_rules.proofs.Finding.{all_of, found_next}
 use Rattle.net_rules.proofs.statements.+statements.Goals as goal
 
 pub find_in_block-statements-init : goal.find_in_block-statements-init

@@ -1,9 +1,9 @@
-use Rattle.std.proofs.Common.{ap, sym, refl, ◌∙◌, map, arith}
+use Rattle.std.proofs.Common.{ap, sym, map, arith}
 use Rattle.std.specs.Option.{option_or}
 use Rattle.net_rules.specs.Tables.{value_of}
 use Rattle.net_rules.specs.Found.{Use, use_view}
 use Rattle.net_rules.specs.Known.{first_user}
-use Rattle.net_rules.proofs.FirstUsers.{first_more, first_all}
+use Rattle.net_rules.proofs.FirstUsers.{first_more}
 use Rattle.net_rules.proofs.used.first_users.Goals as goal
 
 pub uses-init : goal.uses-init

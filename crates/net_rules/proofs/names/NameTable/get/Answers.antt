@@ -1,4 +1,4 @@
-use Rattle.std.proofs.Common.{sym, ap, ◌∙◌}
+use Rattle.std.proofs.Common.{ap, ◌∙◌}
 use Rattle.net_rules.specs.Tables.{value_of}
 use Rattle.net_rules.proofs.Tables.{looked_up}
 use Rattle.net_rules.proofs.names.NameTable.get.Goals as goal

@@ -1,4 +1,4 @@
-use Rattle.std.proofs.Common.{◌≡◌, ℕ, List, cond, Some, sym, ap, ◌∙◌}
+use Rattle.std.proofs.Common.{ℕ, List, cond, Some, ap, ◌∙◌}
 use Rattle.std.specs.Str.{bytes_eq}
 use Rattle.net_rules.specs.Tables.{value_of}
 use Rattle.net_rules.proofs.Tables.{seen, updated}
