@@ -27,6 +27,15 @@ first_least test (suc bound) (suc n) within before =
     let is : first_where test (suc bound) ≡ suc (first_where (λ n. test (suc n)) bound) = ap (λ (b : Bool). cond b 0 (suc (first_where (λ n. test (suc n)) bound))) (before 0 (omega arith)) in
     omega (arith, rest, is)
 
+-- it is no more than the bound
+pub first_within : (test : ℕ → Bool) (bound : ℕ) → first_where test bound ≤ bound
+first_within test zero = omega arith
+first_within test (suc bound) =
+    elim (test 0) as (λ b. cond b 0 (suc (first_where (λ n. test (suc n)) bound)) ≤ suc bound) [
+      | true ↦ omega arith
+      | false ↦ let rest = first_within (λ n. test (suc n)) bound in omega (arith, rest)
+    ]
+
 -- the least is the bound, or passes
 pub first_ends : (test : ℕ → Bool) (bound : ℕ) → (first_where test bound ≡ bound) ⊎ (test (first_where test bound) ≡ true)
 first_ends test zero = inl refl

@@ -4,3 +4,5 @@ pub mod Acting
 pub mod ActionLists
 pub mod Going
 pub mod Tests
+pub mod SessionLaws
+mod Examples

@@ -2,3 +2,4 @@ pub mod Sessions
 pub mod Shown
 pub mod Scripts
 pub mod Held
+pub mod Laws
