@@ -2,9 +2,11 @@
 #![tactic(auto)]
 
 mod pages;
+mod texts;
 mod words;
 
 use crate::pages::{page_of, print};
+use crate::texts::PAGES;
 use crate::words::words;
 use std::alloc::Global;
 use std::process::ExitCode;
@@ -19,7 +21,7 @@ mod tests;
 // Does what the words say, over real files and standard output.
 fn run<R: Files + Print + AllocGlobal>(rt: &R, words: &[String]) -> Status {
     let mut out = OutSink::new(rt);
-    match page_of(words) {
+    match page_of(&PAGES, words) {
         Some(text) => print(text, &mut out),
         None => tool(rt.alloc(), words, &mut FileStore::new(rt), &mut out),
     }

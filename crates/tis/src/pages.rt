@@ -2,54 +2,52 @@
 ghost use Rattle.std.specs.Prelude.{◌≡◌, ◌≢◌, ◌⊎◌, ◌++◌, map, option_map, string_bytes};
 ghost use Rattle.std.specs.Option.{option_copied};
 ghost use Rattle.tis_base.specs.Outside.{Rose, WrotePrefix};
-ghost use Rattle.tis.specs.Pages as pages;
+ghost use Rattle.tis.specs.Pages as of_words;
 
 use tis_base::{Sink, SinkError};
 use tis_cli::Status;
 
-/// How the program is called, and what it ends with.
-pub const HELP: &str = "\
-tis: compiles networks of processes to programs for the TIS-100, and runs saves
+/// The texts that the program prints on its own: of all commands, of its version, and a page for each command.
+pub struct Pages {
+    pub all: &'static str,
+    pub version: &'static str,
+    pub compile: &'static str,
+    pub grade: &'static str,
+    pub run: &'static str,
+    pub order: &'static str,
+    pub replay: &'static str,
+    pub debug: &'static str,
+}
 
-tis compile NET SAVE   compiles the network in the file NET to a save in the file SAVE
-tis run SAVE SPEC SEED CYCLES
-                       runs the save in the file SAVE over the grid text in the file SPEC, cycle
-                       by cycle, up to CYCLES of them, and prints a report
-tis order SAVE SPEC SEED ORDERSEED LIMIT
-                       runs it in an order that is drawn with ORDERSEED, up to LIMIT events, and
-                       prints a report
-tis replay SAVE SPEC SEED EVENTS
-                       runs it by the events in the file EVENTS, and prints a report
-tis --help             prints this text, as tis compile --help and the like do
-tis --version          prints the version
-
-SEED and ORDERSEED are numbers below 2^64, and CYCLES and LIMIT are numbers up to 10000000. SEED
-is for specifications that are drawn; a grid text is the same for each.
-
-It ends with 0 where all was done, 2 where the words are no command, 3 where a text was refused or
-an event can't happen in its turn, 4 where a file isn't there, 5 where a file can't be read or
-written, 6 where standard output failed, 7 where memory ran out, and 8 where CYCLES cycles were done
-or LIMIT events have happened, and more can. Where it isn't 0, a line on standard error says why.
-";
-
-/// The program's name and version.
-pub const VERSION: &str = "tis 0.1.0\n";
-
-// Whether a word is that of a command.
-fn is_command(word: &str) -> bool
-    ensures { result ≡ pages.is_command word.now }
+// The page of the command with a word, where there is one.
+fn page_behind(pages: &Pages, word: &str) -> Option<&'static str>
+    ensures { option_copied result ≡ of_words.page_behind pages.now word.now }
 {
-    word == "compile" || word == "run" || word == "order" || word == "replay"
+    if word == "compile" {
+        Some(pages.compile)
+    } else if word == "grade" {
+        Some(pages.grade)
+    } else if word == "run" {
+        Some(pages.run)
+    } else if word == "order" {
+        Some(pages.order)
+    } else if word == "replay" {
+        Some(pages.replay)
+    } else if word == "debug" {
+        Some(pages.debug)
+    } else {
+        None
+    }
 }
 
 /// What the program prints for these words, where they are no command of the tool.
-pub fn page_of(words: &[String]) -> Option<&'static str>
-    ensures { option_copied result ≡ pages.page_of HELP.now VERSION.now (map string_bytes words.now) }
+pub fn page_of(pages: &Pages, words: &[String]) -> Option<&'static str>
+    ensures { option_copied result ≡ of_words.page_of pages.now (map string_bytes words.now) }
 {
     match words {
-        [word] if word.as_str() == "--help" => Some(HELP),
-        [word] if word.as_str() == "--version" => Some(VERSION),
-        [command, word] if is_command(command.as_str()) && word.as_str() == "--help" => Some(HELP),
+        [word] if word.as_str() == "--help" => Some(pages.all),
+        [word] if word.as_str() == "--version" => Some(pages.version),
+        [command, word] if word.as_str() == "--help" => page_behind(pages, command.as_str()),
         _ => None,
     }
 }

@@ -5,3 +5,4 @@ pub mod Putting
 pub mod RunAnswers
 pub mod Fetching
 mod ClockAnswers
+pub mod Seeds

@@ -1,5 +1,6 @@
 -- What each command is: its words, what it fetches, where what it makes goes, what it comes to, and what is promised of that. A new command is a row in each of these definitions.
 use Rattle.std.specs.Prelude.{◌≡◌, ℕ, List, [], ◌∷◌, ◌&&◌, length, filter_map, Option, Some, None, option_map, option_and_then, Ok, codes, nat_lt, nat_le, if◌then◌else◌}
+use Rattle.std.specs.Option.{option_or}
 use Rattle.std.specs.Str.{bytes_eq}
 use Rattle.tis_cli.specs.declared.command.Command as held
 use Rattle.tis_cli.specs.declared.command.Command.TheVariants as held_as
@@ -60,7 +61,7 @@ seeds_of words = if nat_lt 0 (length words) && nat_le (length words) 8 then all_
 abbrev pub grade_with : List ℕ → List ℕ → Option ℕ → Option (List ℕ) → Option Command
 grade_with save spec limit seeds = option_and_then (λ l. option_map (λ all. Grade save spec l all) seeds) limit
 
--- the command `grade` of these words, where they are one: it is the one with any number of words
+-- the command `grade` of these words, where they are one
 abbrev pub grade_of : List (List ℕ) → Option Command
 grade_of (word ∷ save ∷ spec ∷ limit ∷ seeds) = if bytes_eq word (codes "grade") then grade_with save spec (limit_of limit) (seeds_of seeds) else None
 grade_of _ = None
@@ -68,16 +69,20 @@ grade_of _ = None
 abbrev pub debug_with : List ℕ → List ℕ → Option ℕ → List ℕ → Option Command
 debug_with save spec seed script = option_map (λ s. Debug save spec s script) seed
 
--- the command that these words are
-abbrev pub command_of : List (List ℕ) → Option Command
-command_of (word ∷ net ∷ save ∷ []) = if bytes_eq word (codes "compile") then Some (Compile net save) else None
-command_of (word ∷ save ∷ spec ∷ seed ∷ last ∷ []) =
+-- the command of so many words that these words are: that of every command but `grade`, which takes any number of seeds
+abbrev pub fixed_of : List (List ℕ) → Option Command
+fixed_of (word ∷ net ∷ save ∷ []) = if bytes_eq word (codes "compile") then Some (Compile net save) else None
+fixed_of (word ∷ save ∷ spec ∷ seed ∷ last ∷ []) =
     if bytes_eq word (codes "run") then run_with save spec (seed_of seed) (limit_of last)
     else (if bytes_eq word (codes "replay") then replay_with save spec (seed_of seed) last
     else (if bytes_eq word (codes "debug") then debug_with save spec (seed_of seed) last
-    else grade_of (word ∷ save ∷ spec ∷ seed ∷ last ∷ [])))
-command_of (word ∷ save ∷ spec ∷ seed ∷ order_seed ∷ limit ∷ []) = if bytes_eq word (codes "order") then order_with save spec (seed_of seed) (seed_of order_seed) (limit_of limit) else grade_of (word ∷ save ∷ spec ∷ seed ∷ order_seed ∷ limit ∷ [])
-command_of words = grade_of words
+    else None))
+fixed_of (word ∷ save ∷ spec ∷ seed ∷ order_seed ∷ limit ∷ []) = if bytes_eq word (codes "order") then order_with save spec (seed_of seed) (seed_of order_seed) (limit_of limit) else None
+fixed_of _ = None
+
+-- the command that these words are
+abbrev pub command_of : List (List ℕ) → Option Command
+command_of words = option_or (fixed_of words) (grade_of words)
 
 -- the seeds that the program holds
 abbrev pub kept_seeds : List (Option ℕ) → List ℕ

@@ -1,6 +1,6 @@
 //! The words of the command line.
-ghost use Rattle.std.specs.Prelude.{◌≡◌, map, option_map, string_bytes};
-ghost use Rattle.tis_cli.specs.Commands.{command_of, command_view, seed_of as seed_in, limit_of as limit_in, seeds_of as seeds_in, kept_seeds, run_with, order_with, replay_with, grade_with, debug_with};
+ghost use Rattle.std.specs.Prelude.{◌≡◌, [], ◌∷◌, map, option_map, string_bytes};
+ghost use Rattle.tis_cli.specs.Commands.{command_of, fixed_of, command_view, seed_of as seed_in, limit_of as limit_in, seeds_of as seeds_in, kept_seeds, grade_of, run_with, order_with, replay_with, grade_with, debug_with};
 ghost use Rattle.tis_cli.specs.Outcomes.{words_of};
 
 use tis_words::number_of;
@@ -130,7 +130,8 @@ fn seeds_of(words: &[String]) -> Option<[Option<u64>; SEEDS]>
     }
     let mut seeds = [None; SEEDS];
     for index in 0..words.len() {
-        seeds[index] = Some(seed_of(&words[index])?);
+        let seed = seed_of(&words[index])?;
+        seeds[index] = Some(seed);
     }
     Some(seeds)
 }
@@ -169,30 +170,90 @@ fn debug<'a>(
     })
 }
 
-/// The command that these words are, or None where they are none.
-pub fn read_words<'a>(words: &'a [String]) -> Option<Command<'a>>
-    ensures { command_of (words_of words.now) ≡ option_map command_view result }
+// The command `grade` of these words, or None where they are another or none.
+fn read_grade<'a>(words: &'a [String]) -> Option<Command<'a>>
+    ensures { grade_of (words_of words.now) ≡ option_map command_view result }
 {
     match words {
-        [word, net, save] if word.as_str() == "compile" => Some(Command::Compile {
-            net: net.as_str(),
-            save: save.as_str(),
-        }),
-        [word, save, spec, seed, cycles] if word.as_str() == "run" => {
-            run(save, spec, seed, cycles)
-        }
-        [word, save, spec, seed, events] if word.as_str() == "replay" => {
-            replay(save, spec, seed, events)
-        }
-        [word, save, spec, seed, script] if word.as_str() == "debug" => {
-            debug(save, spec, seed, script)
-        }
-        [word, save, spec, seed, order_seed, limit] if word.as_str() == "order" => {
-            order(save, spec, seed, order_seed, limit)
-        }
         [word, save, spec, limit, seeds @ ..] if word.as_str() == "grade" => {
             grade(save, spec, limit, seeds)
         }
         _ => None,
+    }
+}
+
+// The command of three words, of which the first says which it is.
+fn read_three<'a>(word: &String, net: &'a String, save: &'a String) -> Option<Command<'a>>
+    ensures { fixed_of (string_bytes word.now ∷ string_bytes net.now ∷ string_bytes save.now ∷ []) ≡ option_map command_view result }
+{
+    if word.as_str() == "compile" {
+        return Some(Command::Compile {
+            net: net.as_str(),
+            save: save.as_str(),
+        });
+    }
+    None
+}
+
+// The command of five words.
+fn read_five<'a>(
+    word: &String,
+    save: &'a String,
+    spec: &'a String,
+    seed: &String,
+    last: &'a String,
+) -> Option<Command<'a>>
+    ensures { fixed_of (string_bytes word.now ∷ string_bytes save.now ∷ string_bytes spec.now ∷ string_bytes seed.now ∷ string_bytes last.now ∷ []) ≡ option_map command_view result }
+{
+    if word.as_str() == "run" {
+        return run(save, spec, seed, last);
+    }
+    if word.as_str() == "replay" {
+        return replay(save, spec, seed, last);
+    }
+    if word.as_str() == "debug" {
+        return debug(save, spec, seed, last);
+    }
+    None
+}
+
+// The command of six words.
+fn read_six<'a>(
+    word: &String,
+    save: &'a String,
+    spec: &'a String,
+    seed: &String,
+    order_seed: &String,
+    limit: &String,
+) -> Option<Command<'a>>
+    ensures { fixed_of (string_bytes word.now ∷ string_bytes save.now ∷ string_bytes spec.now ∷ string_bytes seed.now ∷ string_bytes order_seed.now ∷ string_bytes limit.now ∷ []) ≡ option_map command_view result }
+{
+    if word.as_str() == "order" {
+        return order(save, spec, seed, order_seed, limit);
+    }
+    None
+}
+
+// The command of a fixed number of words that these words are.
+fn read_fixed<'a>(words: &'a [String]) -> Option<Command<'a>>
+    ensures { fixed_of (words_of words.now) ≡ option_map command_view result }
+{
+    match words {
+        [word, net, save] => read_three(word, net, save),
+        [word, save, spec, seed, last] => read_five(word, save, spec, seed, last),
+        [word, save, spec, seed, order_seed, limit] => {
+            read_six(word, save, spec, seed, order_seed, limit)
+        }
+        _ => None,
+    }
+}
+
+/// The command that these words are, or None where they are none.
+pub fn read_words<'a>(words: &'a [String]) -> Option<Command<'a>>
+    ensures { command_of (words_of words.now) ≡ option_map command_view result }
+{
+    match read_fixed(words) {
+        Some(command) => Some(command),
+        None => read_grade(words),
     }
 }

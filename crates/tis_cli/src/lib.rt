@@ -50,6 +50,8 @@ pub use run::tool;
 pub use status::{Refusal, Status};
 
 #[cfg(test)]
+mod grade_tests;
+#[cfg(test)]
 mod run_tests;
 #[cfg(test)]
 mod tests;
