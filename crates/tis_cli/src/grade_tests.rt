@@ -31,7 +31,8 @@ fn a_save_is_graded_seed_by_seed_up_to_the_first_that_fails(rt: HostRuntime) -> 
     let other = b"grid 1\ntiles CCCC CCCC CCCC\ninput 1 5 7\noutput 1 5 8\n".as_slice();
     let more = b"grid 1\ntiles CCCC CCCC CCCC\ninput 1 5 7\noutput 1 5\noutput 2 9\n".as_slice();
     let first = b"grid 1\ntiles CCCC CCCC CCCC\ninput 1 5 7\noutput 1 5\n".as_slice();
-    let full = b"grid 1\ntiles CMCC CCCC CCCC\ninput 0 1 1 1 1 1 1 1 1 1 1 1 1 1 1 1 1\noutput 3 1\n".as_slice();
+    let full =
+        b"grid 1\ntiles CMCC CCCC CCCC\ninput 0 1 1 1 1 1 1 1 1 1 1 1 1 1 1 1 1\noutput 3 1\n".as_slice();
     let pushes = b"@0\nMOV UP, RIGHT\n".as_slice();
     for (words, save, grid, number, report) in [
         (
@@ -77,7 +78,10 @@ fn a_save_is_graded_seed_by_seed_up_to_the_first_that_fails(rt: HostRuntime) -> 
             b"seed 0 stuck 31\n".as_slice(),
         ),
         (
-            ["grade", "s", "g", "6", "1", "2", "3", "4", "5", "6", "7", "8", "9"].as_slice(),
+            [
+                "grade", "s", "g", "6", "1", "2", "3", "4", "5", "6", "7", "8", "9",
+            ]
+            .as_slice(),
             S,
             both,
             2,
@@ -103,7 +107,13 @@ fn a_save_is_graded_seed_by_seed_up_to_the_first_that_fails(rt: HostRuntime) -> 
 fn the_seed_and_the_verdict_of_the_first_that_fails_are_told(rt: HostRuntime) -> Result<(), Fail> {
     let grid = b"grid 1\ntiles CCCC CCCC CCCC\ninput 1 5 7\noutput 1 5 7\n".as_slice();
     let mut out = MemSink::honest(rt.alloc());
-    let got = answer(rt.alloc(), &["grade", "s", "g", "5", "4", "2"], S, grid, &mut out)?;
+    let got = answer(
+        rt.alloc(),
+        &["grade", "s", "g", "5", "4", "2"],
+        S,
+        grid,
+        &mut out,
+    )?;
     let verdict = Verdict::Late { limit: 5 };
     assert_eq!(rt; got, Status::NotPassed { seed: 4, verdict });
     Ok(())

@@ -34,15 +34,15 @@ loop-index-preserved c =
     let one : index + 1 ≡ suc index = omega arith in
     record {
       left =
-        c.loop-index.invariant.left
-        ∙ ap (λ (left : List (List ℕ)). option_map (λ rest. kept_seeds seeds ++ rest) (all_seeds left)) (next_left string_bytes c.args.words.now index c.index-words-index.result test c.index-words-index.is)
-        ∙ one_seed (kept_seeds seeds) word (drop (index + 1) words) seed c.in_ok-seed.ensures
-        ∙ ap (λ (k : List ℕ). option_map (λ rest. k ++ rest) (all_seeds (drop (index + 1) words))) (sym put);
+          c.loop-index.invariant.left
+          ∙ ap (λ (left : List (List ℕ)). option_map (λ rest. kept_seeds seeds ++ rest) (all_seeds left)) (next_left string_bytes c.args.words.now index c.index-words-index.result test c.index-words-index.is)
+          ∙ one_seed (kept_seeds seeds) word (drop (index + 1) words) seed c.in_ok-seed.ensures
+          ∙ ap (λ (k : List ℕ). option_map (λ rest. k ++ rest) (all_seeds (drop (index + 1) words))) (sym put);
       long = length-set seeds index (Some seed) ∙ long;
       free =
-        ap (λ (k : List (Option ℕ)). kept_seeds k) (drop-set-lt (index + 1) seeds index (Some seed) (omega arith))
-        ∙ ap (λ (n : ℕ). kept_seeds (drop n seeds)) one
-        ∙ free_behind seeds index c.loop-index.invariant.free;
+          ap (λ (k : List (Option ℕ)). kept_seeds k) (drop-set-lt (index + 1) seeds index (Some seed) (omega arith))
+          ∙ ap (λ (n : ℕ). kept_seeds (drop n seeds)) one
+          ∙ free_behind seeds index c.loop-index.invariant.free;
     }
 
 pub returns : goal.returns
