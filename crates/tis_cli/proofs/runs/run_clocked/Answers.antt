@@ -1,4 +1,4 @@
-use Rattle.std.proofs.Common.{◌≡◌, ℕ, List, sym, ap, subst, ◌∙◌}
+use Rattle.std.proofs.Common.{ℕ, List, sym, ap, subst, ◌∙◌}
 use Rattle.tis_grid.specs.Puzzle.{Puzzle}
 use Rattle.tis_grid.specs.State.{State}
 use Rattle.tis_clock.specs.Runs.{EndsAs}

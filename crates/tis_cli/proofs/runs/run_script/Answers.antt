@@ -1,4 +1,4 @@
-use Rattle.std.proofs.Common.{◌≡◌, ℕ, List, Result, sym, ap, refl, ◌∙◌}
+use Rattle.std.proofs.Common.{ℕ, List, Result, sym, ap, refl, ◌∙◌}
 use Rattle.tis_debug.specs.declared.script.Action.{Action}
 use Rattle.tis_debug.specs.Scripts.{debug_text}
 use Rattle.tis_cli.specs.Answers.{Makes, AllDone}
