@@ -6,6 +6,20 @@ pub mod Waiting
 pub mod Running
 pub mod Rounds
 pub mod Counted
-pub mod Accepted
+pub mod SureBodies
 pub mod Numbering
+mod Tables
+mod Sorting
+mod Finding
+mod Declaring
+mod Passing
+mod Knowing
+mod FirstUsers
+mod NumberingNames
+mod Members
+mod Joining
+mod NumberingBlocks
+mod Keeping
+mod CheckedNets
+mod ByTables
 mod Examples

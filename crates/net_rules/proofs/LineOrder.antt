@@ -17,29 +17,19 @@ lesser_first n (Some m) from = ap (λ (k : ℕ). Some k) (omega (arith, from))
 lesser_second : (n m : ℕ) → m ≤ n → lesser (Some n) (Some m) ≡ Some m
 lesser_second n m small = ap (λ (k : ℕ). Some k) (omega (arith, small))
 
-is_small : (a b : ℕ) → nat_le a b ≡ true → a ≤ b
+pub is_small : (a b : ℕ) → nat_le a b ≡ true → a ≤ b
 is_small a b is = grind (arith, nat_tests)
 
-is_large : (a b : ℕ) → nat_le a b ≡ false → b ≤ a
+pub is_large : (a b : ℕ) → nat_le a b ≡ false → b ≤ a
 is_large a b is = grind (arith, nat_tests)
 
-module _ {X : Type 0} (line : X → ℕ) (test : X → Bool) where
-  -- the line of the first that passes
-  abbrev pub first_line : List X → Option ℕ
-  first_line [] = None
-  first_line (x ∷ xs) = cond (test x) (Some (line x)) (first_line xs)
-
-  -- the least line of those that pass
-  abbrev pub least_line : List X → Option ℕ
-  least_line [] = None
-  least_line (x ∷ xs) = lesser (cond (test x) (Some (line x)) None) (least_line xs)
-
+module _ {X : Type 0} (line : X → ℕ) where
   -- no line is smaller than this one
-  abbrev AtLeast : ℕ → List X → Type 0
+  abbrev pub AtLeast : ℕ → List X → Type 0
   AtLeast n [] = Unit {0}
   AtLeast n (x ∷ xs) = (n ≤ line x) × AtLeast n xs
 
-  abbrev Ascends : List X → Type 0
+  abbrev pub Ascends : List X → Type 0
   Ascends [] = Unit {0}
   Ascends (x ∷ xs) = AtLeast (line x) xs × Ascends xs
 
@@ -63,11 +53,22 @@ module _ {X : Type 0} (line : X → ℕ) (test : X → Bool) where
       by true is more = let small = is_small (line x) (line next) is in ((small, weaker (line x) (line next) rest small are.0), are)
       by false is more = (placed_least (line next) x rest (is_large (line x) (line next) is) are.0, more)
 
-  line_ascends : (xs : List X) → Ascends (by_line line xs)
+  pub line_ascends : (xs : List X) → Ascends (by_line line xs)
   line_ascends [] = tt
   line_ascends (x ∷ xs) = placed_ascends x (by_line line xs) (line_ascends xs)
 
-  first_from : (n : ℕ) (xs : List X) → AtLeast n xs → IsFrom n (first_line xs)
+module _ {X : Type 0} (line : X → ℕ) (test : X → Bool) where
+  -- the line of the first that passes
+  abbrev pub first_line : List X → Option ℕ
+  first_line [] = None
+  first_line (x ∷ xs) = cond (test x) (Some (line x)) (first_line xs)
+
+  -- the least line of those that pass
+  abbrev pub least_line : List X → Option ℕ
+  least_line [] = None
+  least_line (x ∷ xs) = lesser (cond (test x) (Some (line x)) None) (least_line xs)
+
+  first_from : (n : ℕ) (xs : List X) → AtLeast line n xs → IsFrom n (first_line xs)
   first_from n [] are = tt
   first_from n (x ∷ xs) are = by (test x) (first_from n xs are.1)
     where
@@ -76,7 +77,7 @@ module _ {X : Type 0} (line : X → ℕ) (test : X → Bool) where
       by false more = more
 
   -- an element that is put in its place counts by its line
-  first_placed : (x : X) (xs : List X) → Ascends xs → first_line (placed_by line x xs) ≡ lesser (cond (test x) (Some (line x)) None) (first_line xs)
+  first_placed : (x : X) (xs : List X) → Ascends line xs → first_line (placed_by line x xs) ≡ lesser (cond (test x) (Some (line x)) None) (first_line xs)
   first_placed x [] are = by (test x)
     where
       by : (b : Bool) → cond b (Some (line x)) None ≡ lesser (cond b (Some (line x)) None) None
@@ -96,10 +97,10 @@ module _ {X : Type 0} (line : X → ℕ) (test : X → Bool) where
       behind false b small more = more
 
       by : (b : Bool) → nat_le (line x) (line next) ≡ b → first_line (placed_by line x rest) ≡ lesser (cond (test x) (Some (line x)) None) (first_line rest) → first_line (cond b (x ∷ next ∷ rest) (next ∷ placed_by line x rest)) ≡ lesser (cond (test x) (Some (line x)) None) (first_line (next ∷ rest))
-      by true is more = let small = is_small (line x) (line next) is in before (test x) (first_from (line x) (next ∷ rest) (small, weaker (line x) (line next) rest small are.0))
+      by true is more = let small = is_small (line x) (line next) is in before (test x) (first_from (line x) (next ∷ rest) (small, weaker line (line x) (line next) rest small are.0))
       by false is more = behind (test next) (test x) (is_large (line x) (line next) is) more
 
   -- the first by line is the one with the least line
   pub first_is_least : (xs : List X) → first_line (by_line line xs) ≡ least_line xs
   first_is_least [] = refl
-  first_is_least (x ∷ xs) = first_placed x (by_line line xs) (line_ascends xs) ∙ ap (lesser (cond (test x) (Some (line x)) None)) (first_is_least xs)
+  first_is_least (x ∷ xs) = first_placed x (by_line line xs) (line_ascends line xs) ∙ ap (lesser (cond (test x) (Some (line x)) None)) (first_is_least xs)

@@ -14,7 +14,7 @@ use Rattle.net_rules.specs.Rules.{IsAccepted}
 use Rattle.net_rules.specs.Process.{Streams, cost, process_run}
 use Rattle.net_rules.specs.Sure.{changes_in, changes_inside, IsSureBlock, IsSure, HasValues}
 use Rattle.net_rules.specs.Laws.{Waits, ProcessesWait}
-use Rattle.net_rules.proofs.Accepted.{IsIn, CanRead, bodies_are_sure}
+use Rattle.net_rules.proofs.SureBodies.{IsIn, CanRead, bodies_are_sure}
 use Rattle.net_rules.proofs.Counted.{stand_in, one_less}
 use Rattle.net_rules.proofs.Rounds.{waits}
 
@@ -145,7 +145,7 @@ first_within test (x ∷ xs) ys is =
       | false ↦ λ fails later. let behind = first_within test xs ys later in omega (arith, behind)
     ] refl is
 
-readable_number : (net : Net) (name : Name) → CanRead (readable net) name → number_in net name < readable_count (numbered net)
+pub readable_number : (net : Net) (name : Name) → CanRead (readable net) name → number_in net name < readable_count (numbered net)
 readable_number net name can =
     let outputs : List Name = map (λ output. output.name) net.outputs in
     let test : Name → Bool = bytes_eq name in
@@ -209,18 +209,18 @@ stands_at x [] place within is = absurd (omega arith)
 stands_at x (first ∷ rest) zero within is = inl is
 stands_at x (first ∷ rest) (suc place) within is = inr (stands_at x rest place (omega arith) is)
 
-of_map : {X Y : Type 0} (f : X → Y) (y : Y) (xs : List X) → IsIn y (map f xs) → (x : X) × IsIn x xs × (f x ≡ y)
+pub of_map : {X Y : Type 0} (f : X → Y) (y : Y) (xs : List X) → IsIn y (map f xs) → (x : X) × IsIn x xs × (f x ≡ y)
 of_map f y [] is = absurd is
 of_map f y (first ∷ xs) (inl same) = (first, inl refl, same)
 of_map f y (first ∷ xs) (inr later) = let found = of_map f y xs later in (found.0, inr found.1, found.2)
 
-values_of : (processes : List ProcessText) → All (λ (process : ProcessText). HasValues process.body) processes → (process : ProcessText) → IsIn process processes → HasValues process.body
+pub values_of : (processes : List ProcessText) → All (λ (process : ProcessText). HasValues process.body) processes → (process : ProcessText) → IsIn process processes → HasValues process.body
 values_of [] all process is = absurd is
 values_of (first ∷ rest) all process (inl same) = subst (λ (p : ProcessText). HasValues p.body) same (All-head (λ (p : ProcessText). HasValues p.body) first rest all)
 values_of (first ∷ rest) all process (inr later) = values_of rest (All-tail (λ (p : ProcessText). HasValues p.body) first rest all) process later
 
 -- a numbered body of an accepted network is sure, and reads what it can
-numbered_sure : (net : Net) (process : ProcessText) → IsAccepted net → IsIn process net.processes → HasValues process.body →
+pub numbered_sure : (net : Net) (process : ProcessText) → IsAccepted net → IsIn process net.processes → HasValues process.body →
     (surely_reads (block_with (number_in net) process.body) ≡ true) × IsSureBlock (λ name. name < readable_count (numbered net)) (block_with (number_in net) process.body)
 numbered_sure net process accepted is values =
     let sure = bodies_are_sure net accepted process is values in (

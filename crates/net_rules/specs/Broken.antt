@@ -1,5 +1,5 @@
 -- What an error says of the rules.
-use Rattle.std.specs.Prelude.{◌≡◌, Option, Some, None}
+use Rattle.std.specs.Prelude.{◌≡◌, Option, Some, None, Result, Ok, Err}
 use Rattle.net_rules.specs.declared.error.RuleError.{RuleError}
 use Rattle.net_rules.specs.declared.error.RuleError.TheVariants as errors
 use Rattle.net_rules.specs.Rules.{BrokenRule, Unknown, Repeated, SamePlace, ReadTwice, WrittenTwice, CounterChanged, Unread, Unwritten, ReadBeforeWritten, NoSureRead, LoopWithoutRead, JoinAfterSplit}
@@ -24,3 +24,8 @@ IsBroken errors.NoMemory wanted = Unit {0}
 abbrev pub Breaks : Option RuleError → Option BrokenRule → Type 0
 Breaks None wanted = wanted ≡ None
 Breaks (Some error) wanted = IsBroken error wanted
+
+-- a call that keeps silent where this rule isn't broken, and else names it
+abbrev pub Keeps : Result (Unit {0}) RuleError → Option BrokenRule → Type 0
+Keeps (Ok done) wanted = wanted ≡ None
+Keeps (Err error) wanted = IsBroken error wanted

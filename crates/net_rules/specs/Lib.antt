@@ -8,3 +8,7 @@ pub mod Process
 pub mod Kahn
 pub mod Sure
 pub mod Laws
+pub mod Tables
+pub mod Found
+pub mod Known
+pub mod CheckedNet

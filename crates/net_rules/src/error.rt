@@ -1,6 +1,10 @@
 //! Which rule a network breaks.
+ghost use Rattle.std.specs.Prelude.{◌≡◌};
+ghost use Rattle.net_rules.specs.declared.error.RuleError.TheVariants.{NoMemory as no_memory};
+
 use std::error::Error;
 use std::fmt;
+use tis_base::NoMemory;
 
 /// The first rule that a network breaks, with the number of a line, counted from 1, or of a process,
 /// counted from 0.
@@ -32,6 +36,14 @@ pub enum RuleError {
     JoinAfterSplit { process: u32 },
     /// Memory ran out.
     NoMemory,
+}
+
+impl From<NoMemory> for RuleError {
+    ghost from_gives = { λ _ e. e ≡ no_memory };
+
+    fn from(_error: NoMemory) -> Self {
+        RuleError::NoMemory
+    }
 }
 
 impl fmt::Display for RuleError {

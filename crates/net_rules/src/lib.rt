@@ -10,24 +10,52 @@
 //!
 //! # What the layers above use
 //!
+//! [`check`] gives a [`Checked`] network, with the numbers of its names and its bodies over numbers, or the first
+//! rule that is broken: exactly that of `first_broken`. [`is_small`] is the test of what it asks.
+//!
 //! [`processes_wait`]: from the rules, and since its numbers are values of the machine, a process never runs out of
 //! fuel, whatever values it reads; so the streams are those of a process that never ends.
 //!
+//! # An example
+//!
+//! ```text
+//! let net = read_net(alloc, text)?;
+//! match check(alloc, &net) {
+//!     Ok(checked) => checked.number(&name),          // its number, counted from 0
+//!     Err(RuleError::Unread { line }) => ..,          // nobody reads what this line declares
+//!     Err(error) => ..,
+//! }
+//! ```
+//!
+//! # What the calls cost
+//!
+//! [`check`] takes time and memory as the network is large, and a little more for sorting its lines: names stand in
+//! hash tables, and no rule looks at all pairs of names or statements. [`surely_reads`] and
+//! [`first_loop_without_read`] go over a body once for each `while` around a statement. The look-ups take no memory.
+//!
 //! # What it doesn't do
 //!
-//! No call here looks for every rule yet: what stands are the definitions, what is known of them, what one
-//! statement or body reads, writes and changes ([`read_of`], [`written_of`], [`changes`], [`surely_reads`]),
-//! and the one rule that looks at each process by itself ([`sure_reads`]). It knows
-//! nothing of programs and grids, and of tiles only how many there are.
+//! It runs no process, and knows nothing of programs and grids, and of tiles only how many there are.
 #![tactic(auto)]
 
+mod accepted;
+mod declarations;
 mod error;
+mod joins;
+mod known;
 mod laws;
+mod lines;
 mod loops;
+mod names;
+mod numbered;
+mod numbers;
+mod statements;
 mod sure;
 mod turns;
+mod used;
 mod uses;
 
+pub use accepted::{Checked, check, is_small};
 pub use error::RuleError;
 pub use laws::processes_wait;
 pub use loops::first_loop_without_read;

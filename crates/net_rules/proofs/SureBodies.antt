@@ -48,11 +48,11 @@ in_order line y (x ∷ xs) (inr later) = still_placed line x y (by_line line xs)
 
 -- ---- where no rule is broken
 
-neither : (one other : Option BrokenRule) → option_or one other ≡ None → (one ≡ None) × (other ≡ None)
+pub neither : (one other : Option BrokenRule) → option_or one other ≡ None → (one ≡ None) × (other ≡ None)
 neither None other is = (refl, is)
 neither (Some rule) other is = absurd cc
 
-no_test : (test : Bool) (rule : BrokenRule) → broken_where test rule ≡ None → test ≡ false
+pub no_test : (test : Bool) (rule : BrokenRule) → broken_where test rule ≡ None → test ≡ false
 no_test true rule is = absurd cc
 no_test false rule is = refl
 
@@ -65,7 +65,7 @@ each_among fault earlier (first ∷ xs) none x is =
       | inr later ↦ each_among fault (first ∷ earlier) xs parts.1 x later
     ]
 
-any_false : {X : Type 0} (test : X → Bool) (xs : List X) → list_any test xs ≡ false → (x : X) → IsIn x xs → test x ≡ false
+pub any_false : {X : Type 0} (test : X → Bool) (xs : List X) → list_any test xs ≡ false → (x : X) → IsIn x xs → test x ≡ false
 any_false test [] none x is = absurd is
 any_false test (first ∷ xs) none x is =
     elim (test first) as (λ b. test first ≡ b → (b || list_any test xs) ≡ false → test x ≡ false) [
@@ -87,7 +87,7 @@ no_loop (first ∷ rest) none one is =
       ]
     ] refl none
 
-neither_false : (one other : Bool) → one ≡ false → other ≡ false → (one || other) ≡ false
+pub neither_false : (one other : Bool) → one ≡ false → other ≡ false → (one || other) ≡ false
 neither_false one other first second = ap (λ b. b || other) first ∙ second
 
 -- ---- one body
