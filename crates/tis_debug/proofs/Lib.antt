@@ -3,6 +3,6 @@ pub mod Standing
 pub mod Acting
 pub mod ActionLists
 pub mod Going
-pub mod Tests
+pub mod Negations
 pub mod SessionLaws
 mod Examples

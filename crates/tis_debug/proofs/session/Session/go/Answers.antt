@@ -5,7 +5,7 @@ use Rattle.tis_debug.specs.declared.session.Stop.TheVariants.{Break}
 use Rattle.tis_debug.specs.Sessions.{Session, moved, stands_still, break_here}
 use Rattle.tis_debug.proofs.Going.{end_of, stops_still, stops_all, goes_on, break_next, stops_at, count_is, stop_is, count_least, go_most, go_less, go_all}
 use Rattle.tis_debug.proofs.Standing.{moved_more}
-use Rattle.tis_debug.proofs.Tests.{negated, affirmed, on_err}
+use Rattle.tis_debug.proofs.Negations.{negated, affirmed, on_err}
 use Rattle.tis_debug.proofs.session.Session.go.Goals as goal
 
 pub returns-in_err-advance-clause-broken_off : goal.returns-in_err-advance-clause-broken_off

@@ -4,7 +4,7 @@ use Rattle.std.specs.Prelude.{Bool}
 use Rattle.tis_debug.specs.Sessions.{Session, moved, stands_still}
 use Rattle.tis_debug.proofs.First.{first_is, first_least}
 use Rattle.tis_debug.proofs.Standing.{moved_more}
-use Rattle.tis_debug.proofs.Tests.{negated, affirmed, on_err}
+use Rattle.tis_debug.proofs.Negations.{negated, affirmed, on_err}
 use Rattle.tis_debug.proofs.session.Session.step.Goals as goal
 
 pub returns-in_err-advance-clause-broken_off : goal.returns-in_err-advance-clause-broken_off
