@@ -8,6 +8,7 @@ use tis_base::{Sink, SinkError};
 use tis_cli::Status;
 
 /// The texts that the program prints on its own: of all commands, of its version, and a page for each command.
+#[derive(Drop)]
 pub struct Pages {
     pub all: &'static str,
     pub version: &'static str,
