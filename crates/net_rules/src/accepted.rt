@@ -1,5 +1,5 @@
 //! Networks that keep the rules.
-ghost use Rattle.std.specs.Prelude.{◌≡◌, ◌<◌, ℕ, List, length, slice_get, Some, map, IsTrue};
+ghost use Rattle.std.specs.Prelude.{◌≡◌, ◌<◌, ◌↔◌, ℕ, List, length, slice_get, Some, map, IsTrue};
 ghost use Rattle.net_tree.specs.View.{net_view};
 ghost use Rattle.net_numbered.specs.View.{numbered_block};
 ghost use Rattle.net_rules.specs.Broken.{Keeps};
@@ -46,7 +46,7 @@ fn check_rules(alloc: Global, net: &Net, numbers: Numbers) -> Result<(), RuleErr
 
 /// Whether a network has few enough names and processes to be checked: fewer than 2^31 of each.
 pub fn is_small(net: &Net) -> bool
-    ensures { IsTrue result → IsSmallNet (net_view net.now) }
+    ensures { IsTrue result ↔ IsSmallNet (net_view net.now) }
 {
     let names = net
         .inputs

@@ -49,7 +49,7 @@ pub(crate) fn names_of<'n>(
     Ok(table)
 }
 
-// An error where something is wrong.
+/// An error where something is wrong.
 pub(crate) fn forbid(wrong: bool, error: RuleError) -> Result<(), RuleError>
     ensures { result ≡ (if wrong then Err error else Ok tt) }
 {

@@ -1,9 +1,8 @@
 //! The statements of a network, as the rules look at them.
-ghost use Rattle.std.specs.Prelude.{◌≡◌, ◌<◌, ◌^◌, ◌++◌, false, length, map, OnOk};
+ghost use Rattle.std.specs.Prelude.{◌≡◌, ◌<◌, ◌^◌, ◌++◌, ◌||◌, false, length, map, OnOk};
 ghost use Rattle.tis_base.specs.Answers.{Gives};
 ghost use Rattle.net_tree.specs.View.{block_view, statement_view, process_view};
 ghost use Rattle.net_rules.specs.Rules.{by_line};
-ghost use Rattle.std.specs.Prelude.{◌||◌};
 ghost use Rattle.net_tree.specs.declared.tree.Var.TheVariants.{X, Y};
 ghost use Rattle.net_rules.specs.Uses.{is_same_var};
 ghost use Rattle.net_rules.specs.Found.{use_view, changes_counted as statement_changes_counted, use_of as statement_use, uses_in, uses_inside, uses_from};

@@ -1,5 +1,6 @@
 //! The grid of tiles.
 ghost use Rattle.std.specs.Prelude.{◌≡◌, ◌<◌, ◌↔◌, length, count_by, slice_get, option_map, IsSome, IfSome, Some};
+ghost use Rattle.tis_base.specs.Tiles as tiles;
 
 use std::marker::Model;
 
@@ -10,6 +11,21 @@ pub enum Dir {
     Right,
     Up,
     Down,
+}
+
+impl Dir {
+    /// The direction from the other side: what a tile gives to the left, its neighbour takes from the right.
+    #[inline]
+    pub fn opposite(self) -> Dir
+        ensures { result ≡ tiles.opposite self }
+    {
+        match self {
+            Dir::Left => Dir::Right,
+            Dir::Right => Dir::Left,
+            Dir::Up => Dir::Down,
+            Dir::Down => Dir::Up,
+        }
+    }
 }
 
 /// What stands on a tile: a compute node (T21), a stack memory node (T30), or nothing that works.

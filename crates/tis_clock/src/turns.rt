@@ -3,7 +3,6 @@ ghost use Rattle.std.specs.Prelude.{◌≡◌, ◌<◌, ◌∷◌, [], length, f
 ghost use Rattle.tis_base.specs.declared.tiles.Dir.{Dir as AnyDir};
 ghost use Rattle.tis_base.specs.declared.tiles.Dir.TheVariants.{Down};
 ghost use Rattle.std.specs.List.{find};
-ghost use Rattle.tis_base.specs.Tiles.{opposite as other_side};
 ghost use Rattle.tis_node.specs.NodeView.{node_view};
 ghost use Rattle.tis_grid.specs.Orders.{Fits};
 ghost use Rattle.tis_node.specs.Intents.{takes_from};
@@ -31,18 +30,6 @@ fn is_writing(node: &Node) -> bool
     match node.mode {
         Mode::Ready => false,
         Mode::Writing { .. } => true,
-    }
-}
-
-// The direction from the other side.
-fn opposite(dir: Dir) -> Dir
-    ensures { result ≡ other_side dir }
-{
-    match dir {
-        Dir::Left => Dir::Right,
-        Dir::Right => Dir::Left,
-        Dir::Up => Dir::Down,
-        Dir::Down => Dir::Up,
     }
 }
 
@@ -101,8 +88,8 @@ fn take_from_next(
 {
     // The call tells the proof that this is a grid.
     grid.puzzle();
-    if gives_old(grid, writing, state, next, opposite(dir)) {
-        return Some(Event::Meet(next, opposite(dir)));
+    if gives_old(grid, writing, state, next, dir.opposite()) {
+        return Some(Event::Meet(next, dir.opposite()));
     }
     if grid.has_value(state, next) {
         return Some(Event::Pop(tile, dir));

@@ -10,7 +10,7 @@ ghost use Rattle.tis_node.specs.Intents.{is_local, takes_from, gives_to};
 ghost use Rattle.tis_grid.specs.HeldState.{HasRoom, spares_after, spare_at};
 
 use crate::event::Event;
-use crate::grid::{Grid, opposite};
+use crate::grid::Grid;
 use crate::state::State;
 use tis_base::{Dir, Tile, Value};
 use tis_node::Intent;
@@ -168,7 +168,7 @@ impl Grid {
     {
         let value = self.offered(state, tile, dir);
         let reader = self.reached(tile, dir);
-        self.take(state, reader, opposite(dir), value);
+        self.take(state, reader, dir.opposite(), value);
         self.give(state, tile, dir);
     }
 

@@ -11,7 +11,7 @@ ghost use Rattle.tis_grid.specs.Drawn.{choice_of, next_of};
 ghost use Rattle.tis_grid.specs.Orders.{Fits, IsAtRest};
 
 use crate::event::Event;
-use crate::grid::{Grid, opposite};
+use crate::grid::Grid;
 use crate::state::{COLUMNS, State, TILES};
 use arrayvec::ArrayVec;
 use rand_core::utils::NextWord;
@@ -155,7 +155,7 @@ impl Grid {
         match self.next(tile, dir) {
             None => None,
             Some(next) => {
-                if self.is_waiting(state, next, opposite(dir)) {
+                if self.is_waiting(state, next, dir.opposite()) {
                     Some(Event::Meet(tile, dir))
                 } else if self.has_room(state, next) {
                     Some(Event::Push(tile, dir))

@@ -13,7 +13,7 @@ ghost use Rattle.tis_grid.specs.Events as event;
 ghost use Rattle.tis_grid.specs.Orders.{Fits};
 ghost use Rattle.tis_base.specs.declared.tiles.Dir.TheVariants as dirs;
 
-use crate::grid::{Grid, opposite};
+use crate::grid::Grid;
 use crate::state::State;
 use tis_asm::Program;
 use tis_base::{Dir, Tile, TileKind};
@@ -213,7 +213,7 @@ impl Grid {
             return false;
         }
         match self.next(tile, dir) {
-            Some(reader) => self.is_waiting(state, reader, opposite(dir)),
+            Some(reader) => self.is_waiting(state, reader, dir.opposite()),
             None => false,
         }
     }

@@ -42,19 +42,6 @@ impl Model for Grid {
     ghost invariant = { λ g. IsHeldGrid g.puzzle g.programs g.input_at };
 }
 
-// The direction from the other side.
-#[inline]
-pub(crate) fn opposite(dir: Dir) -> Dir
-    ensures { result ≡ tiles.opposite dir }
-{
-    match dir {
-        Dir::Left => Dir::Right,
-        Dir::Right => Dir::Left,
-        Dir::Up => Dir::Down,
-        Dir::Down => Dir::Up,
-    }
-}
-
 // The index of the input at a position.
 fn index_of(inputs: &[InputAt], position: u8) -> Option<usize>
     ensures { result ≡ place_of inputs.now position }

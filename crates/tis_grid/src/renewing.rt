@@ -10,7 +10,7 @@ ghost use Rattle.tis_grid.specs.Orders.{Fits};
 
 use crate::choices::Choices;
 use crate::event::Event;
-use crate::grid::{Grid, opposite};
+use crate::grid::Grid;
 use crate::state::State;
 use tis_base::{Dir, Tile};
 
@@ -60,7 +60,7 @@ impl Grid {
         if self.is_memory(tile) {
             return true;
         }
-        self.is_giving(state, next, opposite(dir))
+        self.is_giving(state, next, dir.opposite())
     }
 
     // Makes the list of the tile that is next in a direction anew, where something there can have changed.
