@@ -1,5 +1,5 @@
 //! What a tile does at its turn in a cycle.
-ghost use Rattle.std.specs.Prelude.{◌≡◌, ◌<◌, ◌∷◌, [], length, flat_map, IfSome, IsTrue, Some, None, false, ◌&&◌};
+ghost use Rattle.std.specs.Prelude.{◌≡◌, ◌<◌, ◌∷◌, [], ℕ, length, flat_map, IfSome, IsTrue, Some, None, false, ◌&&◌};
 ghost use Rattle.tis_base.specs.declared.tiles.Dir.{Dir as AnyDir};
 ghost use Rattle.tis_base.specs.declared.tiles.Dir.TheVariants.{Down};
 ghost use Rattle.std.specs.List.{find};
@@ -20,10 +20,14 @@ use tis_node::{Intent, Mode, Node};
 /// How many tiles a grid has.
 pub(crate) const TILES: usize = 12;
 
+/// The same, as tiles are numbered.
+pub(crate) const COUNT: u8 = 12;
+
 // The number of the first tile of the bottom row.
 const BOTTOM: u8 = 8;
 
 // Whether a node writes.
+#[inline(always)]
 fn is_writing(node: &Node) -> bool
     ensures { result ≡ cycle.is_writing (node_view node.now).mode }
 {
@@ -34,16 +38,26 @@ fn is_writing(node: &Node) -> bool
 }
 
 /// Which tiles are writing.
+#[inline(always)]
 pub(crate) fn writers(grid: &Grid, state: &State) -> [bool; TILES]
     requires { Fits grid.now state.now.state }
     ensures { Keeps result state.now.state }
 {
-    let shape = grid.puzzle().tiles.shape();
+    // The call tells the proof how many tiles there are.
+    grid.puzzle().tiles.shape();
     let mut writing = [false; TILES];
-    for number in 0..shape.columns * shape.rows {
+    for number in 0..COUNT {
         writing[number as usize] = is_writing(&state.node(Tile { number }));
     }
     writing
+}
+
+/// Whether any tile was writing when the cycle began.
+#[inline(always)]
+pub(crate) fn any_was_writing(writing: &[bool; TILES]) -> bool
+    ensures { ¬ IsTrue result → (tile : ℕ) → kept_at writing.now tile ≡ false }
+{
+    writing.iter().any(|writes| *writes)
 }
 
 // Whether a tile was writing when the cycle began.
