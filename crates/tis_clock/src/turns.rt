@@ -1,8 +1,8 @@
 //! What a tile does at its turn in a cycle.
-ghost use Rattle.std.specs.Prelude.{◌≡◌, ◌<◌, ◌∷◌, [], ℕ, length, flat_map, IfSome, IsTrue, Some, None, false, ◌&&◌};
+ghost use Rattle.std.specs.Prelude.{◌≡◌, ◌<◌, ◌∷◌, [], length, flat_map, IfSome, IsTrue, Some, None, false, ◌&&◌};
 ghost use Rattle.tis_base.specs.declared.tiles.Dir.{Dir as AnyDir};
 ghost use Rattle.tis_base.specs.declared.tiles.Dir.TheVariants.{Down};
-ghost use Rattle.std.specs.List.{find};
+ghost use Rattle.std.specs.List.{find, list_any};
 ghost use Rattle.tis_node.specs.NodeView.{node_view};
 ghost use Rattle.tis_grid.specs.Orders.{Fits};
 ghost use Rattle.tis_node.specs.Intents.{takes_from};
@@ -55,7 +55,7 @@ pub(crate) fn writers(grid: &Grid, state: &State) -> [bool; TILES]
 /// Whether any tile was writing when the cycle began.
 #[inline(always)]
 pub(crate) fn any_was_writing(writing: &[bool; TILES]) -> bool
-    ensures { ¬ IsTrue result → (tile : ℕ) → kept_at writing.now tile ≡ false }
+    ensures { result ≡ list_any (λ writes. writes) writing.now }
 {
     writing.iter().any(|writes| *writes)
 }
