@@ -1,5 +1,5 @@
 -- One tile after the other, in a half of a cycle.
-use Rattle.std.proofs.Common.{◌≡◌, ℕ, ◌+◌, ◌-◌, ◌<◌, ◌≤◌, List, [], ◌∷◌, ◌++◌, length, Option, Some, None, refl, sym, ap, ◌∙◌, arith, append_assoc, append-nil, length-append}
+use Rattle.std.proofs.Common.{◌≡◌, ℕ, ◌+◌, ◌-◌, ◌<◌, ◌≤◌, Bool, true, List, [], ◌∷◌, ◌++◌, length, Option, Some, None, refl, sym, ap, ◌∙◌, arith, append_assoc, append-nil, length-append}
 use Rattle.std.specs.List.{range_with_len}
 use Rattle.tis_grid.specs.declared.event.Event.{Event}
 use Rattle.tis_grid.specs.State.{Grid, State}
@@ -21,27 +21,29 @@ module _ (grid : Grid) (choose : State → ℕ → Option Event) where
       sym (ap (λ (c : Option Event). and_then grid now c (λ next. in_turn grid choose next tiles)) is)
       ∙ elim chosen as (λ (c : Option Event). and_then grid now c (λ next. in_turn grid choose next tiles) ≡ acts c ++ in_turn grid choose (state_after grid now (acts c)) tiles) [ None ↦ refl | Some event ↦ refl ]
 
-  -- the tiles before this one had their turn: what they did, the trace behind it and the state; the others are still to come
-  pub record Done (start : State) (before : List Event) (count number : ℕ) (trace : List Event) (now : State) : Type 0 where
+  -- the tiles before this one had their turn: what they did, how many events that was, the trace behind it if it is kept, and the state; the others are still to come
+  pub record Done (kept : Bool) (start : State) (before : List Event) (count number : ℕ) (trace : List Event) (counted : ℕ) (now : State) : Type 0 where
     pub given : List Event
-    pub trace_is : trace ≡ before ++ given
+    pub trace_is : kept ≡ true → trace ≡ before ++ given
+    pub counted_is : counted ≡ length given
     pub now_is : now ≡ state_after grid start given
     pub rest : in_turn grid choose start (range_with_len 0 count) ≡ given ++ in_turn grid choose now (columns_from count number)
     pub few : length given ≤ number
 
-  pub none_done : (start : State) (before : List Event) (count : ℕ) → Done start before count 0 before start
-  none_done start before count = record { given = []; trace_is = sym (append-nil before); now_is = refl; rest = ap (λ n. in_turn grid choose start (range_with_len 0 n)) (let all : count ≡ count - 0 = omega arith in all); few = omega arith }
+  pub none_done : (kept : Bool) (start : State) (before : List Event) (count : ℕ) → Done kept start before count 0 before 0 start
+  none_done kept start before count = record { given = []; trace_is = λ is_kept. sym (append-nil before); counted_is = refl; now_is = refl; rest = ap (λ n. in_turn grid choose start (range_with_len 0 n)) (let all : count ≡ count - 0 = omega arith in all); few = omega arith }
 
   acts_few : (chosen : Option Event) → length (acts chosen) ≤ 1
   acts_few None = omega arith
   acts_few (Some event) = omega arith
 
-  pub one_more : (start : State) (before : List Event) (count number : ℕ) (trace : List Event) (now : State) (chosen : Option Event) (traced : List Event) (next : State) →
-      Done start before count number trace now → number < count → chosen ≡ choose now number → traced ≡ trace ++ acts chosen → next ≡ state_after grid now (acts chosen) →
-      Done start before count (number + 1) traced next
-  one_more start before count number trace now chosen traced next done within is traced_is next_is = record {
+  pub one_more : (kept : Bool) (start : State) (before : List Event) (count number : ℕ) (trace : List Event) (counted : ℕ) (now : State) (chosen : Option Event) (traced : List Event) (more : ℕ) (next : State) →
+      Done kept start before count number trace counted now → number < count → chosen ≡ choose now number → (kept ≡ true → traced ≡ trace ++ acts chosen) → more ≡ length (acts chosen) → next ≡ state_after grid now (acts chosen) →
+      Done kept start before count (number + 1) traced (counted + more) next
+  one_more kept start before count number trace counted now chosen traced more next done within is traced_is more_is next_is = record {
     given = done.given ++ acts chosen;
-    trace_is = traced_is ∙ ap (λ t. t ++ acts chosen) done.trace_is ∙ append_assoc before done.given (acts chosen);
+    trace_is = λ is_kept. traced_is is_kept ∙ ap (λ t. t ++ acts chosen) (done.trace_is is_kept) ∙ append_assoc before done.given (acts chosen);
+    counted_is = let both = length-append done.given (acts chosen) in omega (arith, both, more_is, done.counted_is);
     now_is = next_is ∙ ap (λ s. state_after grid s (acts chosen)) done.now_is ∙ sym (state_after_then grid start done.given (acts chosen));
     rest = done.rest ∙ ap (λ tiles. done.given ++ in_turn grid choose now tiles) (next_column count number within)
         ∙ ap (λ events. done.given ++ events) (in_turn_next now number (columns_from count (number + 1)) chosen is)
@@ -51,7 +53,7 @@ module _ (grid : Grid) (choose : State → ℕ → Option Event) where
   }
 
   -- all tiles had their turn
-  pub whole : (start : State) (before : List Event) (count number : ℕ) (trace : List Event) (now : State) (done : Done start before count number trace now) → count ≤ number →
+  pub whole : (kept : Bool) (start : State) (before : List Event) (count number : ℕ) (trace : List Event) (counted : ℕ) (now : State) (done : Done kept start before count number trace counted now) → count ≤ number →
       in_turn grid choose start (range_with_len 0 count) ≡ done.given
-  whole start before count number trace now done past =
+  whole kept start before count number trace counted now done past =
       done.rest ∙ ap (λ tiles. done.given ++ in_turn grid choose now tiles) (no_column count number past) ∙ append-nil done.given

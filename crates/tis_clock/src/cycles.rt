@@ -1,15 +1,15 @@
 //! A grid, cycle by cycle.
-ghost use Rattle.std.specs.Prelude.{◌≡◌, ◌≤◌, ◌++◌, [], length, IfOk, IfErr, OnOk};
+ghost use Rattle.std.specs.Prelude.{◌≡◌, ◌≤◌, ◌++◌, [], IsTrue, length, IfOk, IfErr, OnOk};
 ghost use Rattle.tis_grid.specs.Orders.{Fits};
 ghost use Rattle.tis_grid.specs.HeldState.{HasRoomEach};
 ghost use Rattle.tis_clock.specs.Cycle.{reads_or_steps, gives_out, state_after, in_turn, all_tiles, cycle_events, after_cycle};
 ghost use Rattle.tis_clock.specs.Runs.{EndsAs, LowersBy, IsAfterSome};
-ghost use Rattle.tis_clock.specs.Turns.{kept_at, HasRoomForOne};
+ghost use Rattle.tis_clock.specs.Turns.{kept_at, acts, HasRoomForOne};
 
 use crate::trace::Trace;
 use crate::turns::{COUNT, TILES, act, any_was_writing, give_out, read_or_step, writers};
 use tis_base::{NoMemory, Tile};
-use tis_grid::{Ended, Grid, State};
+use tis_grid::{Ended, Event, Grid, State};
 
 // How many tiles a grid has.
 #[inline(always)]
@@ -22,42 +22,94 @@ fn tiles_of(grid: &Grid) -> u8
     COUNT
 }
 
-// What the tiles do that were ready, tile by tile.
+// How many events that is.
 #[inline(always)]
-fn first_half(grid: &Grid, writing: &[bool; TILES], state: &mut State, trace: &mut Trace)
-    requires fits { Fits grid.now state.old.state }
-    requires empty { trace.old ≡ [] }
-    ensures trace { trace.new ≡ in_turn grid.now (reads_or_steps grid.now (kept_at writing.now)) state.old.state (all_tiles grid.now) }
-    ensures few { length trace.new ≤ 12 }
-    ensures state { state.new.state ≡ state_after grid.now state.old.state trace.new }
-    ensures spares { state.new.spares ≡ state.old.spares }
-    ensures fits { Fits grid.now state.new.state }
+fn number_of(chosen: Option<Event>) -> u32
+    ensures number { result ≡ length (acts chosen) }
+    ensures one { result ≤ 1 }
 {
-    for number in 0..tiles_of(grid) {
-        let chosen = read_or_step(grid, writing, state, Tile { number });
-        trace.add(chosen);
+    match chosen {
+        Some(_) => 1,
+        None => 0,
     }
 }
 
-// What those give that were writing and whose values weren't taken, tile by tile.
+// What the tiles do that were ready, tile by tile, and how many events there were. They are written into the trace if
+// they are kept.
 #[inline(always)]
-fn second_half(grid: &Grid, writing: &[bool; TILES], state: &mut State, trace: &mut Trace)
+fn first_half(
+    grid: &Grid,
+    writing: &[bool; TILES],
+    state: &mut State,
+    trace: &mut Trace,
+    kept: bool,
+) -> u32
+    requires fits { Fits grid.now state.old.state }
+    requires empty { trace.old ≡ [] }
+    ensures trace { IsTrue kept → trace.new ≡ in_turn grid.now (reads_or_steps grid.now (kept_at writing.now)) state.old.state (all_tiles grid.now) }
+    ensures count { result ≡ length (in_turn grid.now (reads_or_steps grid.now (kept_at writing.now)) state.old.state (all_tiles grid.now)) }
+    ensures few { result ≤ 12 }
+    ensures state { state.new.state ≡ state_after grid.now state.old.state (in_turn grid.now (reads_or_steps grid.now (kept_at writing.now)) state.old.state (all_tiles grid.now)) }
+    ensures spares { state.new.spares ≡ state.old.spares }
+    ensures fits { Fits grid.now state.new.state }
+{
+    let mut count = 0;
+    for number in 0..tiles_of(grid) {
+        let chosen = read_or_step(grid, writing, state, Tile { number });
+        trace.add(chosen, kept);
+        count += number_of(chosen);
+    }
+    count
+}
+
+// What those give that were writing and whose values weren't taken, tile by tile, and how many events there were.
+#[inline(always)]
+fn second_half(
+    grid: &Grid,
+    writing: &[bool; TILES],
+    state: &mut State,
+    trace: &mut Trace,
+    kept: bool,
+) -> u32
     requires fits { Fits grid.now state.old.state }
     requires room { HasRoomForOne grid.now state.old.spares }
-    requires few { length trace.old ≤ 12 }
-    ensures trace { trace.new ≡ trace.old ++ in_turn grid.now (gives_out grid.now (kept_at writing.now)) state.old.state (all_tiles grid.now) }
+    requires few { IsTrue kept → length trace.old ≤ 12 }
+    ensures trace { IsTrue kept → trace.new ≡ trace.old ++ in_turn grid.now (gives_out grid.now (kept_at writing.now)) state.old.state (all_tiles grid.now) }
+    ensures count { result ≡ length (in_turn grid.now (gives_out grid.now (kept_at writing.now)) state.old.state (all_tiles grid.now)) }
+    ensures few { result ≤ 12 }
     ensures state { state.new.state ≡ state_after grid.now state.old.state (in_turn grid.now (gives_out grid.now (kept_at writing.now)) state.old.state (all_tiles grid.now)) }
     ensures spares { LowersBy 1 state.old.spares state.new.spares }
     ensures fits { Fits grid.now state.new.state }
 {
     if !any_was_writing(writing) {
-        return;
+        return 0;
     }
+    let mut count = 0;
     for number in 0..tiles_of(grid) {
         let chosen = give_out(grid, writing, state, Tile { number });
         act(grid, state, chosen);
-        trace.add(chosen);
+        trace.add(chosen, kept);
+        count += number_of(chosen);
     }
+    count
+}
+
+// Applies the events of one clock cycle, and gives how many there were. They are written into the trace if they are kept.
+#[inline(always)]
+fn do_cycle(grid: &Grid, state: &mut State, trace: &mut Trace, kept: bool) -> u32
+    requires fits { Fits grid.now state.old.state }
+    requires room { HasRoomEach state.old 1 }
+    ensures trace { IsTrue kept → trace.new ≡ cycle_events grid.now state.old.state }
+    ensures count { result ≡ length (cycle_events grid.now state.old.state) }
+    ensures state { state.new.state ≡ after_cycle grid.now state.old.state }
+    ensures spares { LowersBy 1 state.old.spares state.new.spares }
+    ensures fits { Fits grid.now state.new.state }
+{
+    let writing = writers(grid, state);
+    trace.clear();
+    let first = first_half(grid, &writing, state, trace, kept);
+    let second = second_half(grid, &writing, state, trace, kept);
+    first + second
 }
 
 /// Applies the events of one clock cycle, writes them into the trace, and gives how many there were: by the law
@@ -72,11 +124,7 @@ pub fn cycle(grid: &Grid, state: &mut State, trace: &mut Trace) -> u32
     ensures spares { LowersBy 1 state.old.spares state.new.spares }
     ensures fits { Fits grid.now state.new.state }
 {
-    let writing = writers(grid, state);
-    trace.clear();
-    first_half(grid, &writing, state, trace);
-    second_half(grid, &writing, state, trace);
-    trace.len()
+    do_cycle(grid, state, trace, true)
 }
 
 /// Runs a grid cycle by cycle until it is at rest, for so many cycles at most, and gives how many were done. It asks
@@ -92,7 +140,7 @@ pub fn run(grid: &Grid, state: &mut State, cycles: u64) -> Ended
     grid.puzzle();
     let mut trace = Trace::new();
     for done in 0..cycles {
-        if cycle(grid, state, &mut trace) == 0 {
+        if do_cycle(grid, state, &mut trace, false) == 0 {
             return Ended::Rest { done };
         }
     }
@@ -128,7 +176,7 @@ pub fn run_making_room(grid: &Grid, state: &mut State, cycles: u64) -> Result<En
     let mut trace = Trace::new();
     for done in 0..cycles {
         make_room(state)?;
-        if cycle(grid, state, &mut trace) == 0 {
+        if do_cycle(grid, state, &mut trace, false) == 0 {
             return Ok(Ended::Rest { done });
         }
     }

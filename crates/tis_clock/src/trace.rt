@@ -1,5 +1,5 @@
 //! The events of a cycle.
-ghost use Rattle.std.specs.Prelude.{◌≡◌, ◌<◌, [], ◌∷◌, ◌++◌, length, slice_get, Some};
+ghost use Rattle.std.specs.Prelude.{◌≡◌, ◌<◌, [], ◌∷◌, ◌++◌, IsTrue, length, slice_get, Some};
 ghost use Rattle.tis_clock.specs.Turns.{acts};
 
 use std::marker::Model;
@@ -73,12 +73,15 @@ impl Trace {
         self.count += 1;
     }
 
-    // One more event at the end, where there is one.
+    // One more event at the end, where there is one, if the events are kept.
     #[inline(always)]
-    pub(crate) fn add(&mut self, event: Option<Event>)
-        requires { length self.old < 48 }
-        ensures { self.new ≡ self.old ++ acts event }
+    pub(crate) fn add(&mut self, event: Option<Event>, kept: bool)
+        requires { IsTrue kept → length self.old < 48 }
+        ensures { IsTrue kept → self.new ≡ self.old ++ acts event }
     {
+        if !kept {
+            return;
+        }
         if let Some(event) = event {
             self.push(event);
         }

@@ -1,13 +1,10 @@
--- The two halves are the cycle.
-use Rattle.tis_clock.proofs.Same.{is_whole}
+-- The events are kept.
+use Rattle.std.proofs.Common.{length, List, refl, sym, ap, ◌∙◌}
+use Rattle.tis_grid.specs.declared.event.Event.{Event}
 use Rattle.tis_clock.proofs.cycles.cycle.Goals as goal
 
 pub returns-clause-trace : goal.returns-clause-trace
-returns-clause-trace c =
-    (is_whole c.args.grid.now c.writers-writing.result c.args.state.now.state c.first_half.new.state.state c.second_half.new.state.state c.first_half.new.trace c.second_half.new.trace
-    c.writers-writing.ensures c.first_half.ensures.trace c.first_half.ensures.state c.second_half.ensures.trace c.second_half.ensures.state).events
+returns-clause-trace c = c.do_cycle.ensures.trace refl
 
-pub returns-clause-state : goal.returns-clause-state
-returns-clause-state c =
-    (is_whole c.args.grid.now c.writers-writing.result c.args.state.now.state c.first_half.new.state.state c.second_half.new.state.state c.first_half.new.trace c.second_half.new.trace
-    c.writers-writing.ensures c.first_half.ensures.trace c.first_half.ensures.state c.second_half.ensures.trace c.second_half.ensures.state).after
+pub returns-clause-count : goal.returns-clause-count
+returns-clause-count c = c.do_cycle.ensures.count ∙ ap (λ (events : List Event). length events) (sym (c.do_cycle.ensures.trace refl))

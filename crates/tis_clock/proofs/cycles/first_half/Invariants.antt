@@ -1,5 +1,5 @@
 -- The tiles so far had their turn, and gave to no output.
-use Rattle.std.proofs.Common.{◌≡◌, [], length}
+use Rattle.std.proofs.Common.{◌≡◌, ◌≤◌, [], length}
 use Rattle.tis_grid.specs.Orders.{Fits}
 use Rattle.tis_clock.specs.Cycle.{reads_or_steps}
 use Rattle.tis_clock.specs.Turns.{kept_at}
@@ -10,5 +10,6 @@ abbrev pub invariant-loop-number : goal.invariant-loop-number
 invariant-loop-number l = record {
   fits : Fits l.grid l.state.state;
   spares : l.state.spares ≡ l.initial.state.spares;
-  done : Done l.grid (reads_or_steps l.grid (kept_at l.writing)) l.initial.state.state [] (length l.grid.puzzle.tiles.kinds) l.number l.trace l.state.state;
+  few : l.count ≤ l.number;
+  done : Done l.grid (reads_or_steps l.grid (kept_at l.writing)) l.kept l.initial.state.state [] (length l.grid.puzzle.tiles.kinds) l.number l.trace l.count l.state.state;
 }

@@ -1,19 +1,18 @@
 -- Cycle after cycle.
-use Rattle.std.proofs.Common.{◌≡◌, length, true, false, List, refl, sym, ap, subst, ◌∙◌, arith}
-use Rattle.tis_grid.specs.declared.event.Event.{Event}
+use Rattle.std.proofs.Common.{◌≡◌, length, true, false, refl, sym, ap, subst, ◌∙◌, arith}
 use Rattle.tis_grid.specs.Orders.{IsAtRest}
 use Rattle.tis_clock.specs.Cycle.{cycle_events, after_cycle, after_cycles}
 use Rattle.tis_clock.specs.Runs.{WorksBefore}
 use Rattle.tis_clock.proofs.Runs.{cycle_more, rests, stays, works, works_more}
 use Rattle.tis_clock.proofs.cycles.run_making_room.Goals as goal
 
-pub returns-then-cycle-eq0-clause-ended : goal.returns-then-cycle-eq0-clause-ended
-returns-then-cycle-eq0-clause-ended c =
+pub returns-then-do_cycle-eq0-clause-ended : goal.returns-then-do_cycle-eq0-clause-ended
+returns-then-do_cycle-eq0-clause-ended c =
     let grid = c.args.grid.now in
     let here = c.make_room.new.state.state in
     let led : here ≡ after_cycles grid c.args.state.now.state c.loop-done.done = c.make_room.ensures.state ∙ c.loop-done.invariant.led in
-    let none : length (cycle_events grid here) ≡ 0 = ap (λ (events : List Event). length events) (sym c.cycle.ensures.trace) ∙ sym c.cycle.ensures.count ∙ c.if-cycle-eq0.true in
-    let same : c.cycle.new.state.state ≡ here = c.cycle.ensures.state ∙ stays grid here none in (
+    let none : length (cycle_events grid here) ≡ 0 = sym c.do_cycle.ensures.count ∙ c.if-do_cycle-eq0.true in
+    let same : c.do_cycle.new.state.state ≡ here = c.do_cycle.ensures.state ∙ stays grid here none in (
       c.loop-done.auto.done-end,
       same ∙ led,
       subst (IsAtRest grid) (sym same) (rests grid here c.puzzle.ensures.grid none),
@@ -25,10 +24,10 @@ loop-done-preserved c =
     let grid = c.args.grid.now in
     let here = c.make_room.new.state.state in
     let led : here ≡ after_cycles grid c.args.state.now.state c.loop-done.done = c.make_room.ensures.state ∙ c.loop-done.invariant.led in
-    let some : length (cycle_events grid here) ≡ 0 → ⊥ = λ none. c.if-cycle-eq0.false (c.cycle.ensures.count ∙ ap (λ (events : List Event). length events) c.cycle.ensures.trace ∙ none) in
+    let some : length (cycle_events grid here) ≡ 0 → ⊥ = λ none. c.if-do_cycle-eq0.false (c.do_cycle.ensures.count ∙ none) in
     record {
-      fits = c.cycle.ensures.fits;
-      led = c.cycle.ensures.state ∙ ap (after_cycle grid) led ∙ sym (cycle_more grid c.args.state.now.state c.loop-done.done);
+      fits = c.do_cycle.ensures.fits;
+      led = c.do_cycle.ensures.state ∙ ap (after_cycle grid) led ∙ sym (cycle_more grid c.args.state.now.state c.loop-done.done);
       works = works_more grid c.args.state.now.state c.loop-done.done c.loop-done.invariant.works (λ rest. works grid here c.puzzle.ensures.grid some (subst (IsAtRest grid) (sym led) rest));
     }
 

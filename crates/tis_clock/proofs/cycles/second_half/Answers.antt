@@ -36,26 +36,27 @@ loop-number-preserved c =
       fits = c.act.ensures.fits;
       left = subst (IsLeft grid (c.loop-number.number + 1) c.args.state.now.spares) (sym c.act.ensures.spares)
           (still_left grid c.loop-number.number c.args.state.now.spares c.loop-number.state.spares c.give_out-chosen.result c.loop-number.invariant.left gives);
-      done = one_more grid (gives_out grid was) c.args.state.now.state c.args.trace.now (length grid.puzzle.tiles.kinds) c.loop-number.number c.loop-number.trace c.loop-number.state.state c.give_out-chosen.result c.add.new.self c.act.new.state.state
-          c.loop-number.invariant.done (subst (λ (n : ℕ). c.loop-number.number < n) c.tiles_of-number-end.ensures.tiles c.loop-number-test.true) c.give_out-chosen.ensures c.add.ensures c.act.ensures.state;
+      few = let had = c.loop-number.invariant.few in let one = c.number_of-count.ensures.one in omega (arith, had, one);
+      done = one_more grid (gives_out grid was) c.args.kept c.args.state.now.state c.args.trace.now (length grid.puzzle.tiles.kinds) c.loop-number.number c.loop-number.trace c.loop-number.count c.loop-number.state.state c.give_out-chosen.result c.add.new.self c.number_of-count.result c.act.new.state.state
+          c.loop-number.invariant.done (subst (λ (n : ℕ). c.loop-number.number < n) c.tiles_of-number-end.ensures.tiles c.loop-number-test.true) c.give_out-chosen.ensures c.add.ensures c.number_of-count.ensures.number c.act.ensures.state;
     }
 
 pub returns-clause-trace : goal.returns-clause-trace
-returns-clause-trace c =
+returns-clause-trace c = λ kept.
     let grid = c.args.grid.now in
     let past : length grid.puzzle.tiles.kinds ≤ c.loop-number.number = let tiles = c.tiles_of-number-end.ensures.tiles in let end = c.loop-number-test.false in omega (arith, tiles, end) in
-    c.loop-number.invariant.done.trace_is
-    ∙ ap (λ (given : List Event). c.args.trace.now ++ given) (sym (whole grid (gives_out grid (kept_at c.args.writing.now)) c.args.state.now.state c.args.trace.now (length grid.puzzle.tiles.kinds) c.loop-number.number c.loop-number.trace c.loop-number.state.state c.loop-number.invariant.done past))
+    c.loop-number.invariant.done.trace_is kept
+    ∙ ap (λ (given : List Event). c.args.trace.now ++ given) (sym (whole grid (gives_out grid (kept_at c.args.writing.now)) c.args.kept c.args.state.now.state c.args.trace.now (length grid.puzzle.tiles.kinds) c.loop-number.number c.loop-number.trace c.loop-number.count c.loop-number.state.state c.loop-number.invariant.done past))
 
 pub returns-clause-state : goal.returns-clause-state
 returns-clause-state c =
     let grid = c.args.grid.now in
     let past : length grid.puzzle.tiles.kinds ≤ c.loop-number.number = let tiles = c.tiles_of-number-end.ensures.tiles in let end = c.loop-number-test.false in omega (arith, tiles, end) in
     c.loop-number.invariant.done.now_is
-    ∙ ap (state_after grid c.args.state.now.state) (sym (whole grid (gives_out grid (kept_at c.args.writing.now)) c.args.state.now.state c.args.trace.now (length grid.puzzle.tiles.kinds) c.loop-number.number c.loop-number.trace c.loop-number.state.state c.loop-number.invariant.done past))
+    ∙ ap (state_after grid c.args.state.now.state) (sym (whole grid (gives_out grid (kept_at c.args.writing.now)) c.args.kept c.args.state.now.state c.args.trace.now (length grid.puzzle.tiles.kinds) c.loop-number.number c.loop-number.trace c.loop-number.count c.loop-number.state.state c.loop-number.invariant.done past))
 
 pub returns-then-not-any_was_writing-clause-trace : goal.returns-then-not-any_was_writing-clause-trace
-returns-then-not-any_was_writing-clause-trace c =
+returns-then-not-any_was_writing-clause-trace c = λ kept.
     let grid = c.args.grid.now in
     let none = none_of c.args.writing.now (sym c.any_was_writing.ensures ∙ c.if-not-any_was_writing.true) in
     sym (ap (λ (given : List Event). c.args.trace.now ++ given) (nobody_gives grid (kept_at c.args.writing.now) none c.args.state.now.state (all_tiles grid)) ∙ append-nil c.args.trace.now)
@@ -65,3 +66,15 @@ returns-then-not-any_was_writing-clause-state c =
     let grid = c.args.grid.now in
     let none = none_of c.args.writing.now (sym c.any_was_writing.ensures ∙ c.if-not-any_was_writing.true) in
     sym (ap (state_after grid c.args.state.now.state) (nobody_gives grid (kept_at c.args.writing.now) none c.args.state.now.state (all_tiles grid)))
+
+pub returns-then-not-any_was_writing-clause-count : goal.returns-then-not-any_was_writing-clause-count
+returns-then-not-any_was_writing-clause-count c =
+    let grid = c.args.grid.now in
+    let none = none_of c.args.writing.now (sym c.any_was_writing.ensures ∙ c.if-not-any_was_writing.true) in
+    sym (ap (λ (given : List Event). length given) (nobody_gives grid (kept_at c.args.writing.now) none c.args.state.now.state (all_tiles grid)))
+
+pub returns-clause-count : goal.returns-clause-count
+returns-clause-count c =
+    let grid = c.args.grid.now in
+    let past : length grid.puzzle.tiles.kinds ≤ c.loop-number.number = let tiles = c.tiles_of-number-end.ensures.tiles in let end = c.loop-number-test.false in omega (arith, tiles, end) in
+    c.loop-number.invariant.done.counted_is ∙ ap (λ (given : List Event). length given) (sym (whole grid (gives_out grid (kept_at c.args.writing.now)) c.args.kept c.args.state.now.state c.args.trace.now (length grid.puzzle.tiles.kinds) c.loop-number.number c.loop-number.trace c.loop-number.count c.loop-number.state.state c.loop-number.invariant.done past))
