@@ -26,8 +26,9 @@
 //!
 //! # What it costs
 //!
-//! A cycle goes over the tiles twice, and asks of each what it can do. `cycle` and `run` take no memory; `run_making_room`
-//! takes some where an output has no room left.
+//! A cycle goes over the tiles, and a second time where one was writing when it began, and asks of each what it can do.
+//! `cycle` writes its events down; a run counts them alone. `cycle` and `run` take no memory; `run_making_room` takes some
+//! where an output has no room left.
 //!
 //! # What it doesn't do
 //!
