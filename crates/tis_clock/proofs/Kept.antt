@@ -1,6 +1,7 @@
 -- Which tiles are writing, kept in an array.
-use Rattle.std.proofs.Common.{◌≡◌, ℕ, zero, suc, ◌+◌, ◌<◌, ◌≤◌, false, Bool, List, length, replicate, inl, inr, refl, sym, ap, subst, ◌∙◌, arith}
+use Rattle.std.proofs.Common.{◌≡◌, ℕ, zero, suc, ◌+◌, ◌<◌, ◌≤◌, true, false, Bool, List, [], ◌∷◌, length, replicate, inl, inr, refl, sym, ap, subst, ◌∙◌, arith}
 use Rattle.std.specs.Prelude.{slice_set}
+use Rattle.std.specs.List.{list_any}
 use Rattle.std.proofs.lemmas.Bool.{cases_eq, cases_lt}
 use Rattle.std.proofs.lemmas.List.{get_or-set_other, get_or-set_same}
 use Rattle.std.proofs.lemmas.List.{get_or_past}
@@ -37,3 +38,10 @@ pub none_kept : (count tile : ℕ) → kept_at (replicate count false) tile ≡ 
 none_kept zero tile = refl
 none_kept (suc count) zero = refl
 none_kept (suc count) (suc tile) = none_kept count tile
+
+-- where none of them is true, none is kept
+pub none_of : (kept : List Bool) → list_any (λ writes. writes) kept ≡ false → (tile : ℕ) → kept_at kept tile ≡ false
+none_of [] none tile = refl
+none_of (true ∷ kept) none tile = absurd cc
+none_of (false ∷ kept) none zero = refl
+none_of (false ∷ kept) none (suc tile) = none_of kept none tile

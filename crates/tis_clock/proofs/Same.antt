@@ -1,5 +1,5 @@
 -- A cycle of which it is kept which tiles were writing.
-use Rattle.std.proofs.Common.{◌≡◌, ℕ, cond, Bool, List, [], ◌∷◌, ◌++◌, Option, Some, None, refl, sym, ap, ◌∙◌}
+use Rattle.std.proofs.Common.{◌≡◌, ℕ, cond, Bool, false, List, [], ◌∷◌, ◌++◌, Option, Some, None, refl, sym, ap, ◌∙◌}
 use Rattle.std.specs.Prelude.{◌&&◌, not, flat_map}
 use Rattle.std.specs.List.{find}
 use Rattle.tis_grid.specs.declared.event.Event.{Event}
@@ -42,6 +42,13 @@ module _ (grid : Grid) (one other : State → ℕ → Option Event) (same : (now
         | None ↦ turns_same tiles now
         | Some event ↦ ap (λ events. event ∷ events) (turns_same tiles (after_event grid now event))
       ]
+
+-- where none was writing, nothing is given
+pub nobody_gives : (grid : Grid) (was : ℕ → Bool) → ((tile : ℕ) → was tile ≡ false) → (now : State) (tiles : List ℕ) → in_turn grid (gives_out grid was) now tiles ≡ []
+nobody_gives grid was none now [] = refl
+nobody_gives grid was none now (tile ∷ tiles) =
+    ap (λ (choice : Option Event). and_then grid now choice (λ next. in_turn grid (gives_out grid was) next tiles)) (ap (λ b. cond b (find (is_enabled grid now) (flat_map (ways_to_give grid tile) directions)) None) (none tile))
+    ∙ nobody_gives grid was none now tiles
 
 -- the two halves are the cycle
 pub record Whole (grid : Grid) (state : State) (trace : List Event) (next : State) : Type 0 where

@@ -7,20 +7,23 @@ ghost use Rattle.tis_clock.specs.Runs.{EndsAs, LowersBy, IsAfterSome};
 ghost use Rattle.tis_clock.specs.Turns.{kept_at, HasRoomForOne};
 
 use crate::trace::Trace;
-use crate::turns::{TILES, act, give_out, read_or_step, writers};
+use crate::turns::{COUNT, TILES, act, any_was_writing, give_out, read_or_step, writers};
 use tis_base::{NoMemory, Tile};
 use tis_grid::{Ended, Grid, State};
 
 // How many tiles a grid has.
+#[inline(always)]
 fn tiles_of(grid: &Grid) -> u8
     ensures tiles { result ≡ length grid.now.puzzle.tiles.kinds }
     ensures few { result ≡ 12 }
 {
-    let shape = grid.puzzle().tiles.shape();
-    shape.columns * shape.rows
+    // The call tells the proof how many tiles there are.
+    grid.puzzle().tiles.shape();
+    COUNT
 }
 
 // What the tiles do that were ready, tile by tile.
+#[inline(always)]
 fn first_half(grid: &Grid, writing: &[bool; TILES], state: &mut State, trace: &mut Trace)
     requires fits { Fits grid.now state.old.state }
     requires empty { trace.old ≡ [] }
@@ -37,6 +40,7 @@ fn first_half(grid: &Grid, writing: &[bool; TILES], state: &mut State, trace: &m
 }
 
 // What those give that were writing and whose values weren't taken, tile by tile.
+#[inline(always)]
 fn second_half(grid: &Grid, writing: &[bool; TILES], state: &mut State, trace: &mut Trace)
     requires fits { Fits grid.now state.old.state }
     requires room { HasRoomForOne grid.now state.old.spares }
@@ -46,6 +50,9 @@ fn second_half(grid: &Grid, writing: &[bool; TILES], state: &mut State, trace: &
     ensures spares { LowersBy 1 state.old.spares state.new.spares }
     ensures fits { Fits grid.now state.new.state }
 {
+    if !any_was_writing(writing) {
+        return;
+    }
     for number in 0..tiles_of(grid) {
         let chosen = give_out(grid, writing, state, Tile { number });
         act(grid, state, chosen);

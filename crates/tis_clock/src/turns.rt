@@ -2,7 +2,7 @@
 ghost use Rattle.std.specs.Prelude.{◌≡◌, ◌<◌, ◌∷◌, [], length, flat_map, IfSome, IsTrue, Some, None, false, ◌&&◌};
 ghost use Rattle.tis_base.specs.declared.tiles.Dir.{Dir as AnyDir};
 ghost use Rattle.tis_base.specs.declared.tiles.Dir.TheVariants.{Down};
-ghost use Rattle.std.specs.List.{find};
+ghost use Rattle.std.specs.List.{find, list_any};
 ghost use Rattle.tis_node.specs.NodeView.{node_view};
 ghost use Rattle.tis_grid.specs.Orders.{Fits};
 ghost use Rattle.tis_node.specs.Intents.{takes_from};
@@ -20,10 +20,14 @@ use tis_node::{Intent, Mode, Node};
 /// How many tiles a grid has.
 pub(crate) const TILES: usize = 12;
 
+/// The same, as tiles are numbered.
+pub(crate) const COUNT: u8 = 12;
+
 // The number of the first tile of the bottom row.
 const BOTTOM: u8 = 8;
 
 // Whether a node writes.
+#[inline(always)]
 fn is_writing(node: &Node) -> bool
     ensures { result ≡ cycle.is_writing (node_view node.now).mode }
 {
@@ -34,16 +38,26 @@ fn is_writing(node: &Node) -> bool
 }
 
 /// Which tiles are writing.
+#[inline(always)]
 pub(crate) fn writers(grid: &Grid, state: &State) -> [bool; TILES]
     requires { Fits grid.now state.now.state }
     ensures { Keeps result state.now.state }
 {
-    let shape = grid.puzzle().tiles.shape();
+    // The call tells the proof how many tiles there are.
+    grid.puzzle().tiles.shape();
     let mut writing = [false; TILES];
-    for number in 0..shape.columns * shape.rows {
+    for number in 0..COUNT {
         writing[number as usize] = is_writing(&state.node(Tile { number }));
     }
     writing
+}
+
+/// Whether any tile was writing when the cycle began.
+#[inline(always)]
+pub(crate) fn any_was_writing(writing: &[bool; TILES]) -> bool
+    ensures { result ≡ list_any (λ writes. writes) writing.now }
+{
+    writing.iter().any(|writes| *writes)
 }
 
 // Whether a tile was writing when the cycle began.

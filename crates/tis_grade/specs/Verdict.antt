@@ -37,7 +37,7 @@ abbrev pub are_same : List ℤ → List ℤ → Bool
 are_same [] [] = true
 are_same [] (value ∷ values) = false
 are_same (value ∷ values) [] = false
-are_same (a ∷ as_) (b ∷ bs) = int_eq a b && are_same as_ bs
+are_same (one ∷ ones) (other ∷ others) = int_eq one other && are_same ones others
 
 -- whether an output is as wanted: a stream has the wanted values, a picture the wanted colours, row by row
 abbrev pub is_done_by : OutKind → List ℤ → List ℤ → Bool
@@ -84,15 +84,15 @@ is_none [] = true
 is_none (event ∷ events) = false
 
 -- a verdict where a test holds
-abbrev pub where_ : Bool → Verdict → Option Verdict
-where_ test verdict = if test then Some verdict else None
+abbrev pub where_holds : Bool → Verdict → Option Verdict
+where_holds test verdict = if test then Some verdict else None
 
 -- what the state after so many cycles decides: first what is wrong, then that all is as wanted, then that nothing more can happen
 abbrev pub decided : Grid → State → ℕ → Option Verdict
 decided grid state cycles =
     option_or (first_fault grid state)
-    (option_or (where_ (are_done grid state) (Passed cycles))
-    (where_ (is_none (enabled_events grid state)) (Stuck cycles)))
+    (option_or (where_holds (are_done grid state) (Passed cycles))
+    (where_holds (is_none (enabled_events grid state)) (Stuck cycles)))
 
 -- the verdict of a state, or else what follows
 abbrev pub or_later : Option Verdict → Verdict → Verdict

@@ -7,7 +7,7 @@ ghost use Rattle.tis_grid.specs.Puzzle.{output_of};
 ghost use Rattle.tis_grid.specs.State.{State as SomeState};
 ghost use Rattle.tis_grid.specs.Orders.{Fits};
 ghost use Rattle.tis_grade.specs.declared.verdict.Verdict.TheVariants.{Passed, Late};
-ghost use Rattle.tis_grade.specs.Verdict.{output_at as output_in, fault_with, fault_at, first_fault as first_fault_of, are_done as done, is_done, is_done_by, where_, or_later, decided, verdict_of};
+ghost use Rattle.tis_grade.specs.Verdict.{output_at as output_in, fault_with, fault_at, first_fault as first_fault_of, are_done as done, is_done, is_done_by, where_holds, or_later, decided, verdict_of};
 ghost use Rattle.tis_grade.specs.Following.{IsFollowed, IsBehind, HoldsAt, IsFollowedAt, IsFollowedIn, IsBehindAt, AreFollowed, AreBehind};
 
 use crate::follow::Follow;
@@ -133,7 +133,7 @@ fn judge(grid: &Grid, follows: &mut [Option<Follow>], state: &State, cycles: u64
     requires four { length follows.old ≡ 4 }
     requires behind { AreBehind grid.now.puzzle.outputs state.now.state follows.old }
     ensures four { length follows.new ≡ 4 }
-    ensures verdict { result ≡ option_or (first_fault_of grid.now state.now.state) (where_ (done grid.now state.now.state) (Passed cycles)) }
+    ensures verdict { result ≡ option_or (first_fault_of grid.now state.now.state) (where_holds (done grid.now state.now.state) (Passed cycles)) }
     ensures followed { IfNone result (AreFollowed grid.now.puzzle.outputs state.now.state follows.new) }
 {
     match first_fault(grid, follows, state) {

@@ -51,13 +51,7 @@ impl Grid {
         if !self.is_compute(tile) {
             return Intent::Nothing;
         }
-        let mut node = state.node(tile);
-        let intent = node.advance(self.program(tile));
-        if !intent.is_local() {
-            return intent;
-        }
-        state.set_node(tile, node);
-        intent
+        state.advance(tile, self.program(tile))
     }
 
     // Does what an event does.

@@ -1,3 +1,4 @@
 pub mod EventLists
 pub mod Readings
 pub mod Puzzles
+mod Examples

@@ -1,11 +1,13 @@
 -- Each tile takes its turn.
-use Rattle.std.proofs.Common.{ℕ, ◌++◌, ◌+◌, ◌<◌, ◌≤◌, length, sym, ap, subst, ◌∙◌, arith, List}
+use Rattle.std.proofs.Common.{ℕ, ◌++◌, ◌+◌, ◌<◌, ◌≤◌, length, sym, ap, subst, ◌∙◌, arith, List, append-nil}
 use Rattle.tis_grid.specs.declared.event.Event.{Event}
 use Rattle.tis_grid.specs.Events.{IsEnabled}
 use Rattle.tis_grid.specs.HeldState.{HasRoom}
-use Rattle.tis_clock.specs.Cycle.{gives_out, state_after}
+use Rattle.tis_clock.specs.Cycle.{gives_out, state_after, all_tiles}
 use Rattle.tis_clock.specs.Turns.{kept_at}
 use Rattle.tis_clock.proofs.Halves.{one_more, whole}
+use Rattle.tis_clock.proofs.Kept.{none_of}
+use Rattle.tis_clock.proofs.Same.{nobody_gives}
 use Rattle.tis_clock.proofs.Room.{GivesBelow, IsLeft, if_chosen, gives_can, gives_below, room_below, still_left}
 use Rattle.tis_clock.proofs.cycles.second_half.Goals as goal
 
@@ -51,3 +53,15 @@ returns-clause-state c =
     let past : length grid.puzzle.tiles.kinds ≤ c.loop-number.number = let tiles = c.tiles_of-number-end.ensures.tiles in let end = c.loop-number-test.false in omega (arith, tiles, end) in
     c.loop-number.invariant.done.now_is
     ∙ ap (state_after grid c.args.state.now.state) (sym (whole grid (gives_out grid (kept_at c.args.writing.now)) c.args.state.now.state c.args.trace.now (length grid.puzzle.tiles.kinds) c.loop-number.number c.loop-number.trace c.loop-number.state.state c.loop-number.invariant.done past))
+
+pub returns-then-not-any_was_writing-clause-trace : goal.returns-then-not-any_was_writing-clause-trace
+returns-then-not-any_was_writing-clause-trace c =
+    let grid = c.args.grid.now in
+    let none = none_of c.args.writing.now (sym c.any_was_writing.ensures ∙ c.if-not-any_was_writing.true) in
+    sym (ap (λ (given : List Event). c.args.trace.now ++ given) (nobody_gives grid (kept_at c.args.writing.now) none c.args.state.now.state (all_tiles grid)) ∙ append-nil c.args.trace.now)
+
+pub returns-then-not-any_was_writing-clause-state : goal.returns-then-not-any_was_writing-clause-state
+returns-then-not-any_was_writing-clause-state c =
+    let grid = c.args.grid.now in
+    let none = none_of c.args.writing.now (sym c.any_was_writing.ensures ∙ c.if-not-any_was_writing.true) in
+    sym (ap (state_after grid c.args.state.now.state) (nobody_gives grid (kept_at c.args.writing.now) none c.args.state.now.state (all_tiles grid)))

@@ -1,7 +1,6 @@
 -- Each tile is kept in its turn.
-use Rattle.std.proofs.Common.{◌≡◌, ◌*◌, arith, refl, ap, ◌∙◌, length-set}
+use Rattle.std.proofs.Common.{arith, refl, ap, ◌∙◌, length-set}
 use Rattle.tis_clock.proofs.Kept.{kept_more, others_kept, none_kept}
-use Rattle.tis_base.specs.declared.tiles.Shape.{Shape}
 use Rattle.tis_asm.specs.Node.{Node}
 use Rattle.tis_clock.specs.Cycle.{is_writing}
 use Rattle.tis_clock.proofs.turns.writers.Goals as goal
@@ -11,13 +10,8 @@ loop-number-init c = record { len = refl; done = λ tile below. absurd (omega (a
 
 pub loop-number-preserved : goal.loop-number-preserved
 loop-number-preserved c =
-    let shape = c.shape-shape.ensures.tiles.allowed in
-    let same = c.shape-shape.ensures.shape in
-    let columns : c.shape-shape.result.columns ≡ 4 = ap (λ (s : Shape). s.columns) same ∙ shape.0 in
-    let rows : c.shape-shape.result.rows ≡ 3 = ap (λ (s : Shape). s.rows) same ∙ shape.1 in
-    let tiles : c.shape-shape.result.columns * c.shape-shape.result.rows ≡ 12 = ap (λ n. n * c.shape-shape.result.rows) columns ∙ ap (λ n. 4 * n) rows in
     record {
       len = length-set c.loop-number.writing c.loop-number.number c.is_writing.result ∙ c.loop-number.invariant.len;
-      done = kept_more c.loop-number.writing c.args.state.now.state c.loop-number.number c.is_writing.result (omega (arith, tiles, c.loop-number.invariant.len)) (c.is_writing.ensures ∙ ap (λ (n : Node). is_writing n.mode) c.node.ensures) c.loop-number.invariant.done;
+      done = kept_more c.loop-number.writing c.args.state.now.state c.loop-number.number c.is_writing.result (omega (arith, c.loop-number.invariant.len, c.loop-number-test.true)) (c.is_writing.ensures ∙ ap (λ (n : Node). is_writing n.mode) c.node.ensures) c.loop-number.invariant.done;
       others = others_kept c.loop-number.writing c.loop-number.number c.is_writing.result c.loop-number.invariant.others;
     }

@@ -5,7 +5,7 @@ use Rattle.tis_grid.specs.Choices.{enabled_events}
 use Rattle.tis_clock.specs.Cycle.{cycle_events, after_cycle}
 use Rattle.tis_clock.proofs.Runs.{rests, works}
 use Rattle.tis_grade.specs.declared.verdict.Verdict.TheVariants.{Passed, Stuck, Late}
-use Rattle.tis_grade.specs.Verdict.{first_fault, are_done, is_none, where_, or_later, decided, verdict_from}
+use Rattle.tis_grade.specs.Verdict.{first_fault, are_done, is_none, where_holds, or_later, decided, verdict_from}
 use Rattle.tis_grade.specs.Following.{AreBehind}
 use Rattle.tis_grade.proofs.Verdicts.{decided_already, undecided, rest_listed, works_listed, verdict_here, verdict_later, cycle_leaves_behind}
 use Rattle.tis_grade.proofs.grading.grade.Goals as goal
@@ -15,7 +15,7 @@ returns-in-Some c =
     let grid = c.args.grid.now in
     let state = c.loop-cycles.state.state in
     let cycles = c.loop-cycles.cycles in
-    let is = decided_already (first_fault grid state) (where_ (are_done grid state) (Passed cycles)) (where_ (is_none (enabled_events grid state)) (Stuck cycles)) c.in-Some.verdict c.in-Some.ensures.verdict in
+    let is = decided_already (first_fault grid state) (where_holds (are_done grid state) (Passed cycles)) (where_holds (is_none (enabled_events grid state)) (Stuck cycles)) c.in-Some.verdict c.in-Some.ensures.verdict in
     sym (c.loop-cycles.invariant.later ∙ verdict_here grid c.args.limit state cycles (c.args.limit - cycles) c.in-Some.verdict is)
 
 pub returns-then-cycle-eq0 : goal.returns-then-cycle-eq0
@@ -25,7 +25,7 @@ returns-then-cycle-eq0 c =
     let cycles = c.loop-cycles.cycles in
     let none : length (cycle_events grid c.make_room.new.state.state) ≡ 0 = ap (λ (events : List Event). length events) (sym c.cycle.ensures.trace) ∙ sym c.cycle.ensures.count ∙ c.if-cycle-eq0.true in
     let rest = subst (λ (s : State). is_none (enabled_events grid s) ≡ true) c.make_room.ensures.state (rest_listed grid c.make_room.new.state.state c.puzzle.ensures.grid (rests grid c.make_room.new.state.state c.puzzle.ensures.grid none)) in
-    let is = undecided (first_fault grid state) (where_ (are_done grid state) (Passed cycles)) (where_ (is_none (enabled_events grid state)) (Stuck cycles)) c.in_default.ensures.verdict ∙ ap (λ (b : Bool). where_ b (Stuck cycles)) rest in
+    let is = undecided (first_fault grid state) (where_holds (are_done grid state) (Passed cycles)) (where_holds (is_none (enabled_events grid state)) (Stuck cycles)) c.in_default.ensures.verdict ∙ ap (λ (b : Bool). where_holds b (Stuck cycles)) rest in
     sym (c.loop-cycles.invariant.later ∙ verdict_here grid c.args.limit state cycles (c.args.limit - cycles) (Stuck cycles) is)
 
 pub loop-cycles-preserved : goal.loop-cycles-preserved
@@ -36,7 +36,7 @@ loop-cycles-preserved c =
     let limit = c.args.limit in
     let some : length (cycle_events grid c.make_room.new.state.state) ≡ 0 → ⊥ = λ none. c.if-cycle-eq0.false (c.cycle.ensures.count ∙ ap (λ (events : List Event). length events) c.cycle.ensures.trace ∙ none) in
     let goes_on = subst (λ (s : State). is_none (enabled_events grid s) ≡ false) c.make_room.ensures.state (works_listed grid c.make_room.new.state.state c.puzzle.ensures.grid (works grid c.make_room.new.state.state c.puzzle.ensures.grid some)) in
-    let open_ = undecided (first_fault grid state) (where_ (are_done grid state) (Passed cycles)) (where_ (is_none (enabled_events grid state)) (Stuck cycles)) c.in_default.ensures.verdict ∙ ap (λ (b : Bool). where_ b (Stuck cycles)) goes_on in
+    let undecided_yet = undecided (first_fault grid state) (where_holds (are_done grid state) (Passed cycles)) (where_holds (is_none (enabled_events grid state)) (Stuck cycles)) c.in_default.ensures.verdict ∙ ap (λ (b : Bool). where_holds b (Stuck cycles)) goes_on in
     let next : c.cycle.new.state.state ≡ after_cycle grid state = c.cycle.ensures.state ∙ ap (λ (s : State). after_cycle grid s) c.make_room.ensures.state in
     let left : limit - cycles ≡ suc (limit - (cycles + 1)) = let below = c.loop-cycles-test.true in omega (arith, below) in
     record {
@@ -45,7 +45,7 @@ loop-cycles-preserved c =
       later =
           c.loop-cycles.invariant.later
           ∙ ap (λ (n : ℕ). verdict_from grid limit state cycles n) left
-          ∙ verdict_later grid limit state cycles (limit - (cycles + 1)) open_
+          ∙ verdict_later grid limit state cycles (limit - (cycles + 1)) undecided_yet
           ∙ ap (λ (s : State). verdict_from grid limit s (cycles + 1) (limit - (cycles + 1))) (sym next);
     }
 

@@ -1,9 +1,8 @@
--- A step leads to a state of the grid.
-use Rattle.std.proofs.Common.{◌≡◌, true, List, sym, ap, subst, ◌∙◌}
+-- A step leads to a state of the grid, and without one the state is as it was.
+use Rattle.std.proofs.Common.{◌≡◌, Bool, true, false, List, refl, sym, ap, subst, ◌∙◌}
 use Rattle.std.proofs.lemmas.Bool.{and_from}
 use Rattle.tis_asm.specs.declared.program.MarkedInstr.{MarkedInstr}
-use Rattle.tis_asm.specs.Node.{Node, can_local, local_step}
-use Rattle.tis_node.specs.NodeView.{node_view}
+use Rattle.tis_asm.specs.Node.{can_local, local_step}
 use Rattle.tis_node.specs.Intents.{is_local}
 use Rattle.tis_grid.specs.declared.event.Event.TheVariants.{Local}
 use Rattle.tis_grid.specs.State.{State, node_at}
@@ -19,12 +18,16 @@ returns-clause-fits c =
     let grid = c.args.self.now in
     let state = c.args.state.now.state in
     let tile = c.args.tile.number in
-    let yes : is_local c.advance-intent.result ≡ true = sym c.is_local.ensures ∙ c.if-not-is_local.false in
     let compute : is_compute_at grid tile ≡ true = sym c.is_compute.ensures.is ∙ c.if-not-is_compute.false in
-    let can : can_local (program_of grid tile) (node_at state tile) ≡ true =
-    ap (λ (p : List MarkedInstr). can_local p (node_at state tile)) (sym c.program.ensures.program) ∙ ap (λ (n : Node). can_local c.program.result.now n) (sym c.node-node.ensures) ∙ c.advance-intent.ensures.local ∙ yes in
-    let enabled : is_enabled grid state (Local c.args.tile) ≡ true = and_from (is_compute_at grid tile) (can_local (program_of grid tile) (node_at state tile)) compute can in
-    let stepped : node_view c.advance-intent.new.self ≡ local_step (program_of grid tile) (node_at state tile) =
-    c.advance-intent.ensures.steps yes ∙ ap (λ (n : Node). local_step c.program.result.now n) c.node-node.ensures ∙ ap (λ (p : List MarkedInstr). local_step p (node_at state tile)) c.program.ensures.program in
-    let after : c.set_node.new.self.state ≡ after_event grid state (Local c.args.tile) = ap (λ (h : HeldState). h.state) c.set_node.ensures ∙ ap (λ (n : Node). with_node state tile n) stepped in
-    subst (λ (s : State). Fits grid s) (sym after) (event_fitting grid state (Local c.args.tile) c.puzzle.ensures.grid c.requires.fits (enabled_parts grid state (Local c.args.tile) enabled))
+    let can : can_local (program_of grid tile) (node_at state tile) ≡ is_local c.advance.result =
+    ap (λ (p : List MarkedInstr). can_local p (node_at state tile)) (sym c.program.ensures.program) ∙ c.advance.ensures.local in
+    elim (is_local c.advance.result) as (λ (b : Bool). is_local c.advance.result ≡ b → Fits grid c.advance.new.self.state) [
+      | true ↦ λ yes.
+          let enabled : is_enabled grid state (Local c.args.tile) ≡ true = and_from (is_compute_at grid tile) (can_local (program_of grid tile) (node_at state tile)) compute (can ∙ yes) in
+          let after : c.advance.new.self.state ≡ after_event grid state (Local c.args.tile) =
+          ap (λ (h : HeldState). h.state) (c.advance.ensures.steps yes) ∙ ap (λ (p : List MarkedInstr). with_node state tile (local_step p (node_at state tile))) c.program.ensures.program in
+          subst (λ (s : State). Fits grid s) (sym after) (event_fitting grid state (Local c.args.tile) c.puzzle.ensures.grid c.requires.fits (enabled_parts grid state (Local c.args.tile) enabled))
+      | false ↦ λ no.
+          let stays = c.advance.ensures.stays (λ is. let bad : true ≡ false = sym is ∙ no in absurd cc) in
+          subst (λ (s : State). Fits grid s) (sym (ap (λ (h : HeldState). h.state) stays)) c.requires.fits
+    ] refl
