@@ -1,3 +1,4 @@
 pub mod Worked
 pub mod Once
 pub mod OneAnswer
+mod Reached
