@@ -2,3 +2,4 @@ pub mod Worked
 pub mod Once
 pub mod OneAnswer
 mod Reached
+mod Found
