@@ -435,3 +435,236 @@ module _ (chunk : List ItemNode) (main : Function) (E : ℕ → Turned → Type 
   expression_by n x s (t.Unary op of line) frames calls state c h =
       of_parts n x (t.Unary op of line) (of and none) 1 (Unary op line) (unary_result op line) (λ v s f m k. refl) frames calls state c (λ d k p. y.unary p) h
   expression_by n x s (t.Binary op west east line) frames calls state c h = binary_at n x op west east line frames calls state c (is_logical op) refl h
+
+  -- ---- statements, a turn further
+
+  abbrev StatementCame : ℕ → List Frame → ℕ → State → ℕ → StatementNode → Type 0
+  StatementCame n frames calls state c node = Came (λ (gone : Gone) cost. Executes chunk calls state node gone cost) (λ gone total. E n (left gone frames calls total)) c
+
+  of_value : (n : ℕ) → ExpressionAt n → (node : StatementNode) (of : Node) (frame : Frame) (make : LuaValue → State → Gone) →
+      ((value : LuaValue) (state : State) (frames : List Frame) (calls cost : ℕ) → resumed main frame (Returns value) frames calls state cost ≡ left (make value state) frames calls cost) →
+      (frames : List Frame) (calls : ℕ) (state : State) (c : ℕ) →
+      ((done : Done LuaValue) (cost : ℕ) → Evaluates chunk calls state of done cost → Executes chunk calls state node (done_with done make) (cost + 1)) →
+      E n (evaluating of (frame ∷ frames) calls state (c + 1)) → StatementCame (suc n) frames calls state c node
+  of_value n x node of frame make same frames calls state c rule h =
+      let p = x of (frame ∷ frames) calls state (c + 1) h in
+      record { given = done_with p.given make; cost = p.cost + 1; total = p.total; derived = rule p.given p.cost p.derived; sum = sum_more _ _ _ _ p.sum;
+               rest = more n _ (value_as n frame make same p.given.outcome p.given.state frames calls p.total p.rest) }
+
+  put_parts : (n : ℕ) → ExpressionAt n → (node : StatementNode) (nodes : Nodes) (making : Making) (make : List LuaValue → State → Gone) →
+      ((values : List LuaValue) (state : State) (frames : List Frame) (calls cost : ℕ) → made making values frames calls state cost ≡ left (make values state) frames calls cost) →
+      (frames : List Frame) (calls : ℕ) (state : State) (c : ℕ) →
+      ((done : Done (List LuaValue)) (cost : ℕ) → AllEvaluate chunk calls state nodes done cost → Executes chunk calls state node (done_with done make) (cost + 1)) →
+      E n (begun making [] nodes frames calls state (c + 1)) → StatementCame (suc n) frames calls state c node
+  put_parts n x node nodes making make same frames calls state c rule h =
+      let p = parts_at n x nodes making [] frames calls state (c + 1) h in
+      record { given = done_with p.given make; cost = p.cost + 1; total = p.total; derived = rule p.given p.cost p.derived; sum = sum_more _ _ _ _ p.sum;
+               rest = more n _ (left_as n making make same p.given.outcome p.given.state frames calls p.total p.rest) }
+
+  bounds_at : (n : ℕ) → ForAt n → (called : List ℕ) (first last : Node) (by : Option Node) (body : BlockNode) (line : ℕ) (frames : List Frame) (calls : ℕ) (state : State) (c : ℕ) →
+      (values : List LuaValue) (now : State) (cost total : ℕ) → AllEvaluate chunk calls state (bounds_parts first last by) (gives values now) cost → total ≡ (c + 1) + cost →
+      (r : Result Bounds Fault) → bounds_of line values ≡ r → E n (looping r called body frames calls now total) → StatementCame (suc n) frames calls state c (t.For called first last by body line)
+  bounds_at n f called first last by body line frames calls state c values now cost total p sum (Ok bounds) is h =
+      let q = f called bounds body frames calls now total h in
+      record { given = q.given; cost = cost + q.cost + 1; total = q.total; derived = y.for_loop p is q.derived; sum = sum_two_more _ _ _ _ _ sum q.sum; rest = more n _ q.rest }
+  bounds_at n f called first last by body line frames calls state c values now cost total p sum (Err why) is h =
+      record { given = stops why now; cost = cost + 1; total = total; derived = y.no_bounds p is; sum = sum_more _ _ _ _ sum; rest = more n _ h }
+
+  for_parts : (n : ℕ) → ForAt n → (called : List ℕ) (first last : Node) (by : Option Node) (body : BlockNode) (line : ℕ) (frames : List Frame) (calls : ℕ) (state : State) (c : ℕ) →
+      (outcome : Result (List LuaValue) Fault) (now : State) (cost total : ℕ) → AllEvaluate chunk calls state (bounds_parts first last by) (record { outcome = outcome; state = now }) cost → total ≡ (c + 1) + cost →
+      E n (parts_by (Loops called body line) [] outcome frames calls now total) → StatementCame (suc n) frames calls state c (t.For called first last by body line)
+  for_parts n f called first last by body line frames calls state c (Ok values) now cost total p sum h =
+      bounds_at n f called first last by body line frames calls state c values now cost total p sum (bounds_of line values) refl h
+  for_parts n f called first last by body line frames calls state c (Err why) now cost total p sum h =
+      record { given = stops why now; cost = cost + 1; total = total; derived = y.bounds_fail p; sum = sum_more _ _ _ _ sum; rest = more n _ h }
+
+  statement_by : (n : ℕ) → ExpressionAt n → StatementAt n → WhileAt n → RepeatAt n → ForAt n → (node : StatementNode) (frames : List Frame) (calls : ℕ) (state : State) (c : ℕ) →
+      E n (turn chunk main (record { control = Execute node; frames = frames; calls = calls; state = state; cost = c })) → StatementCame (suc n) frames calls state c node
+  statement_by n x s w r f (t.Local called (Some of)) frames calls state c h =
+      of_value n x (t.Local called (Some of)) of (Declares called) (λ given now. goes (declared called given now)) (λ v s f m k. refl) frames calls state c (λ d k p. y.local_with p) h
+  statement_by n x s w r f (t.Local called None) frames calls state c h = record { given = goes (declared called Nil state); cost = 1; total = c + 1; derived = y.local_without; sum = refl; rest = more n _ h }
+  statement_by n x s w r f (t.Assign called of) frames calls state c h =
+      of_value n x (t.Assign called of) of (Assigns called) (λ given now. goes (assigned called given now)) (λ v s f m k. refl) frames calls state c (λ d k p. y.assign p) h
+  statement_by n x s w r f (t.SetIndex table key of line) frames calls state c h =
+      put_parts n x (t.SetIndex table key of line) (table and key and of and none) (Puts line) (put line) (λ v s f m k. refl) frames calls state c (λ d k p. y.set_index p) h
+  statement_by n x s w r f (t.SetMember table called of line) frames calls state c h =
+      put_parts n x (t.SetMember table called of line) (table and of and none) (PutsMember called line) (put_member line called) (λ v s f m k. refl) frames calls state c (λ d k p. y.set_member p) h
+  statement_by n x s w r f (t.CallAlone of) frames calls state c h =
+      of_value n x (t.CallAlone of) of Drops (λ given now. goes now) (λ v s f m k. refl) frames calls state c (λ d k p. y.call_alone p) h
+  statement_by n x s w r f (t.If arms) frames calls state c h =
+      let p = arms_at n x s arms frames calls state (c + 1) h in
+      record { given = p.given; cost = p.cost + 1; total = p.total; derived = y.conditional p.derived; sum = sum_more _ _ _ _ p.sum; rest = more n _ p.rest }
+  statement_by n x s w r f (t.While test body) frames calls state c h =
+      let p = w test body frames calls state (c + 1) h in
+      record { given = p.given; cost = p.cost + 1; total = p.total; derived = y.while_loop p.derived; sum = sum_more _ _ _ _ p.sum; rest = more n _ p.rest }
+  statement_by n x s w r f (t.Repeat body test) frames calls state c h =
+      let p = r body test frames calls state (c + 1) h in
+      record { given = p.given; cost = p.cost + 1; total = p.total; derived = y.repeat_loop p.derived; sum = sum_more _ _ _ _ p.sum; rest = more n _ p.rest }
+  statement_by n x s w r f (t.For called first last by body line) frames calls state c h =
+      let p = parts_at n x (bounds_parts first last by) (Loops called body line) [] frames calls state (c + 1) h in
+      for_parts n f called first last by body line frames calls state c p.given.outcome p.given.state p.cost p.total p.derived p.sum p.rest
+  statement_by n x s w r f (t.Do body) frames calls state c h =
+      let q = block_at n s body (Inner (length state.locals) ∷ frames) calls state (c + 1) h in
+      record { given = record q.given { state = left_block state q.given.state }; cost = q.cost + 1; total = q.total; derived = y.do_block q.derived; sum = sum_more _ _ _ _ q.sum;
+               rest = more n _ (block_left n q.given.way q.given.state (length state.locals) frames calls q.total q.rest) }
+  statement_by n x s w r f t.Break frames calls state c h = record { given = record { way = Breaks; state = state }; cost = 1; total = c + 1; derived = y.break_out; sum = refl; rest = more n _ h }
+  statement_by n x s w r f (t.Return (Some of)) frames calls state c h =
+      of_value n x (t.Return (Some of)) of ReturnsIt (λ given now. record { way = Returns given; state = now }) (λ v s f m k. refl) frames calls state c (λ d k p. y.return_with p) h
+  statement_by n x s w r f (t.Return None) frames calls state c h = record { given = record { way = Returns Nil; state = state }; cost = 1; total = c + 1; derived = y.return_without; sum = refl; rest = more n _ h }
+
+  -- ---- turns of loops, a turn of the machine further
+
+  abbrev WhileCame : ℕ → List Frame → ℕ → State → ℕ → Node → BlockNode → Type 0
+  WhileCame n frames calls state c test body = Came (λ (gone : Gone) cost. While chunk calls state test body gone cost) (λ gone total. E n (left gone frames calls total)) c
+
+  while_way : (n : ℕ) → WhileAt n → (test : Node) (body : BlockNode) (frames : List Frame) (calls : ℕ) (state : State) (c : ℕ) →
+      (value : LuaValue) (now : State) (cost middle : ℕ) → Evaluates chunk calls state test (gives value now) cost → middle ≡ c + cost → is_true value ≡ true →
+      (way : Way) (last : State) (further total : ℕ) → Runs chunk calls now body (record { way = way; state = last }) further → total ≡ (middle + 1) + further →
+      E n (back_by way last (WhileBody (length now.locals) test body ∷ frames) calls total) → WhileCame (suc n) frames calls state c test body
+  while_way n w test body frames calls state c value now cost middle p sum is Goes last further total q after_body h =
+      let r = w test body frames calls (left_block now last) total (resume_going n (WhileBody (length now.locals) test body) frames calls last total h) in
+      record { given = r.given; cost = cost + further + r.cost + 1; total = r.total; derived = y.while_on p is q r.derived; sum = sum_turn _ _ _ _ _ _ _ sum after_body r.sum; rest = more n _ r.rest }
+  while_way n w test body frames calls state c value now cost middle p sum is Breaks last further total q after_body h =
+      record { given = record { way = Goes; state = left_block now last }; cost = cost + further + 1; total = total; derived = y.while_left p is q refl; sum = sum_test _ _ _ _ _ sum after_body;
+               rest = more n _ (resume_breaking n (WhileBody (length now.locals) test body) frames calls last total h) }
+  while_way n w test body frames calls state c value now cost middle p sum is (Returns given) last further total q after_body h =
+      record { given = record { way = Returns given; state = left_block now last }; cost = cost + further + 1; total = total; derived = y.while_left p is q refl; sum = sum_test _ _ _ _ _ sum after_body;
+               rest = more n _ (resume n (WhileBody (length now.locals) test body) given frames calls last total h) }
+  while_way n w test body frames calls state c value now cost middle p sum is (Fails why) last further total q after_body h =
+      record { given = record { way = Fails why; state = left_block now last }; cost = cost + further + 1; total = total; derived = y.while_left p is q refl; sum = sum_test _ _ _ _ _ sum after_body; rest = more n _ h }
+
+  while_holds : (n : ℕ) → StatementAt n → WhileAt n → (test : Node) (body : BlockNode) (frames : List Frame) (calls : ℕ) (state : State) (c : ℕ) →
+      (value : LuaValue) (now : State) (cost total : ℕ) → Evaluates chunk calls state test (gives value now) cost → total ≡ c + cost →
+      (b : Bool) → is_true value ≡ b → E n (while_if b test body frames calls now total) → WhileCame (suc n) frames calls state c test body
+  while_holds n s w test body frames calls state c value now cost total p sum true is h =
+      let q = block_at n s body (WhileBody (length now.locals) test body ∷ frames) calls now (total + 1) h in
+      while_way n w test body frames calls state c value now cost total p sum is q.given.way q.given.state q.cost q.total q.derived q.sum q.rest
+  while_holds n s w test body frames calls state c value now cost total p sum false is h =
+      record { given = goes now; cost = cost; total = total; derived = y.while_ends p is; sum = sum; rest = more n _ h }
+
+  while_next : (n : ℕ) → StatementAt n → WhileAt n → (test : Node) (body : BlockNode) (frames : List Frame) (calls : ℕ) (state : State) (c : ℕ) →
+      (outcome : Result LuaValue Fault) (now : State) (cost total : ℕ) → Evaluates chunk calls state test (record { outcome = outcome; state = now }) cost → total ≡ c + cost →
+      E (suc n) (back_by (way_of outcome) now (WhileTest test body ∷ frames) calls total) → WhileCame (suc n) frames calls state c test body
+  while_next n s w test body frames calls state c (Ok value) now cost total p sum h = while_holds n s w test body frames calls state c value now cost total p sum (is_true value) refl (step n _ h)
+  while_next n s w test body frames calls state c (Err why) now cost total p sum h = record { given = stops why now; cost = cost; total = total; derived = y.while_fails p; sum = sum; rest = h }
+
+  while_by_turn : (n : ℕ) → ExpressionAt (suc n) → StatementAt n → WhileAt n → WhileAt (suc n)
+  while_by_turn n x s w test body frames calls state c h =
+      let p = x test (WhileTest test body ∷ frames) calls state c h in
+      while_next n s w test body frames calls state c p.given.outcome p.given.state p.cost p.total p.derived p.sum p.rest
+
+  abbrev RepeatCame : ℕ → List Frame → ℕ → State → ℕ → BlockNode → Node → Type 0
+  RepeatCame n frames calls state c body test = Came (λ (gone : Gone) cost. Repeats chunk calls state body test gone cost) (λ gone total. E n (left gone frames calls total)) c
+
+  until_at : (n : ℕ) → RepeatAt n → (body : BlockNode) (test : Node) (frames : List Frame) (calls : ℕ) (state : State) (c : ℕ) →
+      (last : State) (cost middle : ℕ) → Runs chunk calls state body (goes last) cost → middle ≡ (c + 1) + cost →
+      (value : LuaValue) (now : State) (further total : ℕ) → Evaluates chunk calls last test (gives value now) further → total ≡ middle + further →
+      (b : Bool) → is_true value ≡ b → E n (until_if b (length state.locals) body test frames calls now total) → RepeatCame (suc n) frames calls state c body test
+  until_at n r body test frames calls state c last cost middle p sum value now further total q after_test true is h =
+      record { given = goes (left_block state now); cost = cost + further + 1; total = total; derived = y.repeat_ends p q is; sum = sum_two_more _ _ _ _ _ sum after_test; rest = more n _ h }
+  until_at n r body test frames calls state c last cost middle p sum value now further total q after_test false is h =
+      let g = r body test frames calls (left_block state now) total h in
+      record { given = g.given; cost = cost + further + g.cost + 1; total = g.total; derived = y.repeat_on p q is g.derived; sum = sum_body _ _ _ _ _ _ _ sum after_test g.sum; rest = more n _ g.rest }
+
+  until_next : (n : ℕ) → RepeatAt n → (body : BlockNode) (test : Node) (frames : List Frame) (calls : ℕ) (state : State) (c : ℕ) →
+      (last : State) (cost middle : ℕ) → Runs chunk calls state body (goes last) cost → middle ≡ (c + 1) + cost →
+      (outcome : Result LuaValue Fault) (now : State) (further total : ℕ) → Evaluates chunk calls last test (record { outcome = outcome; state = now }) further → total ≡ middle + further →
+      E n (back_by (way_of outcome) now (RepeatTest (length state.locals) body test ∷ frames) calls total) → RepeatCame (suc n) frames calls state c body test
+  until_next n r body test frames calls state c last cost middle p sum (Ok value) now further total q after_test h =
+      until_at n r body test frames calls state c last cost middle p sum value now further total q after_test (is_true value) refl (resume n (RepeatTest (length state.locals) body test) value frames calls now total h)
+  until_next n r body test frames calls state c last cost middle p sum (Err why) now further total q after_test h =
+      record { given = stops why (left_block state now); cost = cost + further + 1; total = total; derived = y.repeat_fails p q; sum = sum_two_more _ _ _ _ _ sum after_test; rest = more n _ h }
+
+  repeat_way : (n : ℕ) → ExpressionAt n → RepeatAt n → (body : BlockNode) (test : Node) (frames : List Frame) (calls : ℕ) (state : State) (c : ℕ) →
+      (way : Way) (last : State) (cost total : ℕ) → Runs chunk calls state body (record { way = way; state = last }) cost → total ≡ (c + 1) + cost →
+      E (suc n) (back_by way last (RepeatBody (length state.locals) body test ∷ frames) calls total) → RepeatCame (suc n) frames calls state c body test
+  repeat_way n x r body test frames calls state c Goes last cost total p sum h =
+      let q = x test (RepeatTest (length state.locals) body test ∷ frames) calls last total (step n _ h) in
+      until_next n r body test frames calls state c last cost total p sum q.given.outcome q.given.state q.cost q.total q.derived q.sum q.rest
+  repeat_way n x r body test frames calls state c Breaks last cost total p sum h =
+      record { given = record { way = Goes; state = left_block state last }; cost = cost + 1; total = total; derived = y.repeat_left p refl; sum = sum_more _ _ _ _ sum;
+               rest = resume_breaking (suc n) (RepeatBody (length state.locals) body test) frames calls last total h }
+  repeat_way n x r body test frames calls state c (Returns value) last cost total p sum h =
+      record { given = record { way = Returns value; state = left_block state last }; cost = cost + 1; total = total; derived = y.repeat_left p refl; sum = sum_more _ _ _ _ sum;
+               rest = resume (suc n) (RepeatBody (length state.locals) body test) value frames calls last total h }
+  repeat_way n x r body test frames calls state c (Fails why) last cost total p sum h =
+      record { given = record { way = Fails why; state = left_block state last }; cost = cost + 1; total = total; derived = y.repeat_left p refl; sum = sum_more _ _ _ _ sum; rest = h }
+
+  repeat_by_turn : (n : ℕ) → ExpressionAt n → StatementAt (suc n) → RepeatAt n → RepeatAt (suc n)
+  repeat_by_turn n x s r body test frames calls state c h =
+      let p = block_at (suc n) s body (RepeatBody (length state.locals) body test ∷ frames) calls state (c + 1) h in
+      repeat_way n x r body test frames calls state c p.given.way p.given.state p.cost p.total p.derived p.sum p.rest
+
+  abbrev ForCame : ℕ → List Frame → ℕ → State → ℕ → List ℕ → Bounds → BlockNode → Type 0
+  ForCame n frames calls state c called bounds body = Came (λ (gone : Gone) cost. Turns chunk calls state called bounds body gone cost) (λ gone total. E n (left gone frames calls total)) c
+
+  for_way : (n : ℕ) → ForAt n → (called : List ℕ) (bounds : Bounds) (body : BlockNode) (frames : List Frame) (calls : ℕ) (state : State) (c : ℕ) → comes bounds ≡ true →
+      (way : Way) (last : State) (cost total : ℕ) → Runs chunk calls (declared called (Number bounds.first) state) body (record { way = way; state = last }) cost → total ≡ (c + 1) + cost →
+      E (suc n) (back_by way last (ForBody (length state.locals) called bounds body ∷ frames) calls total) → ForCame (suc n) frames calls state c called bounds body
+  for_way n f called bounds body frames calls state c is Goes last cost total p sum h =
+      let g = f called (next_turn bounds) body frames calls (left_block state last) total (step n _ h) in
+      record { given = g.given; cost = cost + g.cost + 1; total = g.total; derived = y.turn_on is p g.derived; sum = sum_two_more _ _ _ _ _ sum g.sum; rest = more n _ g.rest }
+  for_way n f called bounds body frames calls state c is Breaks last cost total p sum h =
+      record { given = record { way = Goes; state = left_block state last }; cost = cost + 1; total = total; derived = y.turn_left is p refl; sum = sum_more _ _ _ _ sum;
+               rest = resume_breaking (suc n) (ForBody (length state.locals) called bounds body) frames calls last total h }
+  for_way n f called bounds body frames calls state c is (Returns value) last cost total p sum h =
+      record { given = record { way = Returns value; state = left_block state last }; cost = cost + 1; total = total; derived = y.turn_left is p refl; sum = sum_more _ _ _ _ sum;
+               rest = resume (suc n) (ForBody (length state.locals) called bounds body) value frames calls last total h }
+  for_way n f called bounds body frames calls state c is (Fails why) last cost total p sum h =
+      record { given = record { way = Fails why; state = left_block state last }; cost = cost + 1; total = total; derived = y.turn_left is p refl; sum = sum_more _ _ _ _ sum; rest = h }
+
+  for_comes : (n : ℕ) → StatementAt (suc n) → ForAt n → (called : List ℕ) (bounds : Bounds) (body : BlockNode) (frames : List Frame) (calls : ℕ) (state : State) (c : ℕ) →
+      (b : Bool) → comes bounds ≡ b → E (suc n) (turning_if b called bounds body frames calls state c) → ForCame (suc n) frames calls state c called bounds body
+  for_comes n s f called bounds body frames calls state c true is h =
+      let p = block_at (suc n) s body (ForBody (length state.locals) called bounds body ∷ frames) calls (declared called (Number bounds.first) state) (c + 1) h in
+      for_way n f called bounds body frames calls state c is p.given.way p.given.state p.cost p.total p.derived p.sum p.rest
+  for_comes n s f called bounds body frames calls state c false is h = record { given = goes state; cost = 0; total = c; derived = y.past is; sum = sum_none c; rest = h }
+
+  for_by_turn : (n : ℕ) → StatementAt (suc n) → ForAt n → ForAt (suc n)
+  for_by_turn n s f called bounds body frames calls state c h = for_comes n s f called bounds body frames calls state c (comes bounds) refl h
+
+  -- ---- all of it, for so many turns
+
+  -- without a turn nothing has ended that is still to be turned
+  running_never : (body : BlockNode) (frames : List Frame) (calls : ℕ) (state : State) (c : ℕ) → E zero (running body frames calls state c) → ⊥
+  running_never t.finished frames calls state c h = never _ h
+  running_never (first andthen others) frames calls state c h = never _ h
+
+  for_at_start : (called : List ℕ) (bounds : Bounds) (body : BlockNode) (frames : List Frame) (calls : ℕ) (state : State) (c : ℕ) →
+      (b : Bool) → comes bounds ≡ b → E zero (turning_if b called bounds body frames calls state c) → ForCame zero frames calls state c called bounds body
+  for_at_start called bounds body frames calls state c true is h = absurd (running_never _ _ _ _ _ h)
+  for_at_start called bounds body frames calls state c false is h = absurd (never _ h)
+
+  pub record Found (n : ℕ) : Type 0 where
+    pub expression : ExpressionAt n
+    pub statement : StatementAt n
+    pub while_turn : WhileAt n
+    pub repeat_turn : RepeatAt n
+    pub for_turn : ForAt n
+
+  found_at_start : Found zero
+  found_at_start = record {
+      expression = λ node frames calls state c h. absurd (never _ h);
+      statement = λ node frames calls state c h. absurd (never _ h);
+      while_turn = λ test body frames calls state c h. absurd (never _ h);
+      repeat_turn = λ body test frames calls state c h. absurd (running_never _ _ _ _ _ h);
+      for_turn = λ called bounds body frames calls state c h. for_at_start called bounds body frames calls state c (comes bounds) refl h }
+
+  found_further : (n : ℕ) → Found n → Found (suc n)
+  found_further n f =
+      let expression : ExpressionAt (suc n) = λ node frames calls state c h. expression_by n f.expression f.statement node frames calls state c (step n _ h) in
+      let statement : StatementAt (suc n) = λ node frames calls state c h. statement_by n f.expression f.statement f.while_turn f.repeat_turn f.for_turn node frames calls state c (step n _ h) in
+      record {
+          expression = expression;
+          statement = statement;
+          while_turn = while_by_turn n expression f.statement f.while_turn;
+          repeat_turn = repeat_by_turn n f.expression statement f.repeat_turn;
+          for_turn = for_by_turn n statement f.for_turn }
+
+  pub found : (n : ℕ) → Found n
+  found zero = found_at_start
+  found (suc n) = found_further n (found n)
+
+  -- a block and a statement, of the turns that are left
+  pub block_found : (n : ℕ) (body : BlockNode) (frames : List Frame) (calls : ℕ) (state : State) (c : ℕ) → E n (running body frames calls state c) → BlockCame n frames calls state c body
+  block_found n body frames calls state c h = block_at n (found n).statement body frames calls state c h
