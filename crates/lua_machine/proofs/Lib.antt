@@ -3,3 +3,8 @@ pub mod Once
 pub mod OneAnswer
 mod Reached
 mod Found
+mod TurnLaws
+mod Growing
+mod FoundParts
+mod FoundExpressions
+mod FoundStatements

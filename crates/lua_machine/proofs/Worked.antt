@@ -12,7 +12,6 @@ use Rattle.lua_machine.specs.Tree as t
 use Rattle.lua_machine.specs.Tree.{Node, BlockNode, ItemNode, none, ◌and◌, finished, ◌andthen◌}
 use Rattle.lua_machine.specs.Answer.{PlainNumber, PlainText, Yields, yields}
 use Rattle.lua_machine.specs.Answer as answer
-use Rattle.lua_machine.specs.Functions.{Function}
 use Rattle.lua_machine.specs.Library.{chosen}
 use Rattle.lua_machine.specs.Turn.{after_turns, begins}
 use Rattle.lua_machine.specs.Machine.{Turned, Ended}

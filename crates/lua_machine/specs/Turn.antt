@@ -1,17 +1,17 @@
 -- One turn of the machine. What a frame waits for comes back to it alone; a fault ends all.
-use Rattle.std.specs.Prelude.{◌≡◌, ℕ, zero, suc, ◌+◌, ◌-◌, ◌<◌, ◌≤◌, pos, Bool, true, false, nat_lt, List, [], ◌∷◌, ◌++◌, length, drop, if◌then◌else◌, Option, Some, None, Result, Ok, Err}
+use Rattle.std.specs.Prelude.{◌≡◌, ◌↔◌, ℕ, zero, suc, ◌+◌, ◌-◌, ◌<◌, pos, Bool, true, false, nat_lt, List, [], ◌∷◌, ◌++◌, length, drop, Option, Some, None, Result, Ok, Err}
 use Rattle.lua_tree.specs.declared.tree.BinaryOp.{BinaryOp}
 use Rattle.lua_tree.specs.declared.tree.BinaryOp.TheVariants as op_of
 use Rattle.lua_machine.specs.Tree as t
 use Rattle.lua_machine.specs.Tree.{Node, Nodes, none, ◌and◌, EntryNodes, StatementNode, BlockNode, ItemNode, ◌andthen◌, ArmNodes}
 use Rattle.lua_machine.specs.Value.{LuaValue, Nil, Truth, Number, Text, Table, Fault, TypeFault, UnknownName, TooDeepCalls, is_true, is_key}
 use Rattle.lua_machine.specs.Tables.{stored}
-use Rattle.lua_machine.specs.State.{State, Done, Variables, gives, fails, value_of, assigned, declared, entered, fresh}
+use Rattle.lua_machine.specs.State.{State, Done, gives, value_of, assigned, declared, entered, fresh}
 use Rattle.lua_machine.specs.Operators.{text, is_logical, decides}
 use Rattle.lua_machine.specs.Library.{MathFunction, Floor, TableFunction, math_of, table_of, math_result, table_result}
 use Rattle.lua_machine.specs.Functions.{Function, function_of}
 use Rattle.lua_machine.specs.Yields.{Way, Goes, Breaks, Returns, Fails, Gone, goes, Bounds, answered, indexed, with_member, unary_result, binary_result, floor_result, put, put_member, returned, out_of_loop, bounds_of, comes, next_turn, bounds_parts, most_calls}
-use Rattle.lua_machine.specs.Answer.{PlainValue, plain_result, plain_value, plain_cost}
+use Rattle.lua_machine.specs.Answer.{PlainValue, plain_result, plain_value, plain_cost, Yields, most_units, RunsOut}
 use Rattle.lua_machine.specs.Machine.{Making, Indexes, Selects, Unary, Binary, Calls, Math, Floors, Tables, Stores, Puts, PutsMember, Loops, Frame, Part, LeftSide, NextEntry, NamedEntry, Declares, Assigns, Drops, ReturnsIt, ArmTest, WhileTest, RepeatTest, Others, Inner, WhileBody, RepeatBody, ForBody, Caller, Items, Control, Evaluate, Execute, Back, Machine, Turned, Next, Ended}
 
 -- ---- back at a frame
@@ -282,3 +282,15 @@ after_turns chunk main (suc turns) (Next m) = after_turns chunk main turns (turn
 -- turns come to this end
 abbrev pub Ends : List ItemNode → Function → Turned → Result PlainValue Fault → ℕ → Type 0
 Ends chunk main from answer cost = (turns : ℕ) × (after_turns chunk main turns from ≡ Ended answer cost)
+
+-- ---- laws
+
+-- turns come to an answer at a cost exactly where a call of the function gives it at that cost
+abbrev pub TurnsYield : Type 0
+TurnsYield = (chunk : List ItemNode) (called : List ℕ) (seed : ℕ) (main : Function) (answer : Result PlainValue Fault) (cost : ℕ) → function_of chunk called ≡ Some main →
+    Yields chunk called seed answer cost ↔ Ends chunk main (begins chunk main seed) answer cost
+
+-- where turns have paid more than may be paid, no answer comes
+abbrev pub SpentTurnsRunOut : Type 0
+SpentTurnsRunOut = (chunk : List ItemNode) (called : List ℕ) (seed : ℕ) (main : Function) (turns : ℕ) (m : Machine) → function_of chunk called ≡ Some main →
+    after_turns chunk main turns (begins chunk main seed) ≡ Next m → most_units < m.cost → RunsOut chunk called seed
