@@ -1,5 +1,5 @@
 -- What has been paid stays paid: no turn lowers the cost.
-use Rattle.std.proofs.Common.{◌≡◌, ℕ, zero, suc, ◌+◌, ◌≤◌, ◌<◌, Bool, true, false, List, [], ◌∷◌, ◌++◌, length, ap, subst, pos, Ok, Err, Result, arith}
+use Rattle.std.proofs.Common.{◌≡◌, ℕ, zero, suc, ◌+◌, ◌≤◌, Bool, true, false, List, [], ◌∷◌, ◌++◌, length, ap, subst, pos, Ok, Err, Result, arith}
 use Rattle.std.specs.Prelude.{Option, Some, None, nat_lt}
 use Rattle.lua_tree.specs.declared.tree.BinaryOp.{BinaryOp}
 use Rattle.lua_machine.specs.Tree as t
@@ -11,18 +11,15 @@ use Rattle.lua_machine.specs.Operators.{text, decides, is_logical}
 use Rattle.lua_machine.specs.Library.{MathFunction, TableFunction, math_of, table_of, math_result, table_result}
 use Rattle.lua_machine.specs.Functions.{Function, function_of}
 use Rattle.lua_machine.specs.Yields.{Gone, Way, Goes, Breaks, Returns, Fails, Bounds, indexed, with_member, unary_result, binary_result, floor_result, put, put_member, bounds_of, bounds_parts, comes, next_turn, returned, most_calls}
-use Rattle.lua_machine.specs.Answer.{PlainValue, RunsOut, most_units, plain_result, plain_cost}
+use Rattle.lua_machine.specs.Answer.{PlainValue, plain_result, plain_cost}
 use Rattle.lua_machine.specs.Machine.{Making, Indexes, Selects, Unary, Binary, Calls, Math, Floors, Tables, Stores, Puts, PutsMember, Loops, Frame, Part, LeftSide, NextEntry, NamedEntry, Declares, Assigns, Drops, ReturnsIt, ArmTest, WhileTest, RepeatTest, Others, Inner, WhileBody, RepeatBody, ForBody, Caller, Items, Control, Evaluate, Execute, Back, Machine, Turned, Next, Ended}
-use Rattle.lua_machine.specs.Turn.{back_by, left, back, value_in, way_of, running, cut_to, choosing, repeating, turning_if, looping, entering, filling, keyed_if, keyed, made, begun, Quotient, under_floor, math_by, math_begun, table_begun, call_begun, binary_begun, expression_begun, statement_begun, assigning, decided_if, arm_if, while_if, until_if, others_by, while_by, repeat_by, for_by, resumed, back_at, turn_at, turn, begins, after_turns}
-use Rattle.lua_machine.proofs.TurnLaws.{turns_yield}
+use Rattle.lua_machine.specs.Turn.{back_by, left, back, value_in, way_of, running, cut_to, choosing, repeating, turning_if, looping, entering, filling, keyed_if, keyed, made, begun, Quotient, under_floor, math_by, math_begun, table_begun, call_begun, binary_begun, expression_begun, statement_begun, assigning, decided_if, arm_if, while_if, until_if, others_by, while_by, repeat_by, for_by, resumed, back_at, turn_at, turn, after_turns, paid}
 
--- what has been paid after a turn
-abbrev paid : Turned → ℕ
-paid (Next m) = m.cost
-paid (Ended answer cost) = cost
-
-same : (c : ℕ) → c ≤ c
+pub same : (c : ℕ) → c ≤ c
 same c = omega arith
+
+two_more : (c : ℕ) → c + 1 ≤ c + 2
+two_more c = omega arith
 
 by_one : (c d : ℕ) → c + 1 ≤ d → c ≤ d
 by_one c d h = omega arith
@@ -48,19 +45,19 @@ by_done done frames calls c = by_way (way_of done.outcome) done.state frames cal
 by_gone : (gone : Gone) (frames : List Frame) (calls c : ℕ) → c ≤ paid (left gone frames calls c)
 by_gone gone frames calls c = by_way gone.way gone.state frames calls c
 
-by_block : (body : BlockNode) (frames : List Frame) (calls : ℕ) (state : State) (c : ℕ) → c ≤ paid (running body frames calls state c)
+pub by_block : (body : BlockNode) (frames : List Frame) (calls : ℕ) (state : State) (c : ℕ) → c ≤ paid (running body frames calls state c)
 by_block t.finished frames calls state c = same c
 by_block (first andthen others) frames calls state c = same c
 
-by_arms : (arms : ArmNodes) (frames : List Frame) (calls : ℕ) (state : State) (c : ℕ) → c ≤ paid (choosing arms frames calls state c)
+pub by_arms : (arms : ArmNodes) (frames : List Frame) (calls : ℕ) (state : State) (c : ℕ) → c ≤ paid (choosing arms frames calls state c)
 by_arms t.no_else frames calls state c = same c
 by_arms (t.else_do body) frames calls state c = by_block body (Inner (length state.locals) ∷ frames) calls state c
 by_arms (t.arm test body others) frames calls state c = same c
 
-by_repeat : (body : BlockNode) (test : Node) (frames : List Frame) (calls : ℕ) (state : State) (c : ℕ) → c ≤ paid (repeating body test frames calls state c)
+pub by_repeat : (body : BlockNode) (test : Node) (frames : List Frame) (calls : ℕ) (state : State) (c : ℕ) → c ≤ paid (repeating body test frames calls state c)
 by_repeat body test frames calls state c = by_one _ _ (by_block body (RepeatBody (length state.locals) body test ∷ frames) calls state (c + 1))
 
-by_for : (b : Bool) (called : List ℕ) (bounds : Bounds) (body : BlockNode) (frames : List Frame) (calls : ℕ) (state : State) (c : ℕ) → c ≤ paid (turning_if b called bounds body frames calls state c)
+pub by_for : (b : Bool) (called : List ℕ) (bounds : Bounds) (body : BlockNode) (frames : List Frame) (calls : ℕ) (state : State) (c : ℕ) → c ≤ paid (turning_if b called bounds body frames calls state c)
 by_for true called bounds body frames calls state c = by_one _ _ (by_block body (ForBody (length state.locals) called bounds body ∷ frames) calls (declared called (Number bounds.first) state) (c + 1))
 by_for false called bounds body frames calls state c = same c
 
@@ -106,57 +103,57 @@ by_parts : (nodes : Nodes) (making : Making) (values : List LuaValue) (frames : 
 by_parts none making values frames calls state c = by_making making values frames calls state c
 by_parts (first and others) making values frames calls state c = same c
 
-by_floor : (q : Option Quotient) (function : MathFunction) (args : Nodes) (line : ℕ) (frames : List Frame) (calls : ℕ) (state : State) (c : ℕ) → c ≤ paid (math_by q function args line frames calls state c)
-by_floor (Some of) function args line frames calls state c = with_more c 2
-by_floor None function args line frames calls state c = by_one _ _ (by_parts args (Math function line) [] frames calls state (c + 1))
+by_floor : (q : Option Quotient) (function : MathFunction) (args : Nodes) (line : ℕ) (frames : List Frame) (calls : ℕ) (state : State) (c : ℕ) → c + 1 ≤ paid (math_by q function args line frames calls state c)
+by_floor (Some of) function args line frames calls state c = two_more c
+by_floor None function args line frames calls state c = by_parts args (Math function line) [] frames calls state (c + 1)
 
-by_math : (found : Option MathFunction) (args : Nodes) (line : ℕ) (frames : List Frame) (calls : ℕ) (state : State) (c : ℕ) → c ≤ paid (math_begun found args line frames calls state c)
+by_math : (found : Option MathFunction) (args : Nodes) (line : ℕ) (frames : List Frame) (calls : ℕ) (state : State) (c : ℕ) → c + 1 ≤ paid (math_begun found args line frames calls state c)
 by_math (Some function) args line frames calls state c = by_floor (under_floor function args) function args line frames calls state c
-by_math None args line frames calls state c = with_more c 1
+by_math None args line frames calls state c = same (c + 1)
 
-by_table : (found : Option TableFunction) (args : Nodes) (line : ℕ) (frames : List Frame) (calls : ℕ) (state : State) (c : ℕ) → c ≤ paid (table_begun found args line frames calls state c)
-by_table (Some function) args line frames calls state c = by_one _ _ (by_parts args (Tables function line) [] frames calls state (c + 1))
-by_table None args line frames calls state c = with_more c 1
+by_table : (found : Option TableFunction) (args : Nodes) (line : ℕ) (frames : List Frame) (calls : ℕ) (state : State) (c : ℕ) → c + 1 ≤ paid (table_begun found args line frames calls state c)
+by_table (Some function) args line frames calls state c = by_parts args (Tables function line) [] frames calls state (c + 1)
+by_table None args line frames calls state c = same (c + 1)
 
-by_call : (found : Option Function) (args : Nodes) (line : ℕ) (frames : List Frame) (calls : ℕ) (state : State) (c : ℕ) → c ≤ paid (call_begun found args line frames calls state c)
-by_call (Some function) args line frames calls state c = by_one _ _ (by_parts args (Calls function line) [] frames calls state (c + 1))
-by_call None args line frames calls state c = with_more c 1
+by_call : (found : Option Function) (args : Nodes) (line : ℕ) (frames : List Frame) (calls : ℕ) (state : State) (c : ℕ) → c + 1 ≤ paid (call_begun found args line frames calls state c)
+by_call (Some function) args line frames calls state c = by_parts args (Calls function line) [] frames calls state (c + 1)
+by_call None args line frames calls state c = same (c + 1)
 
-by_binary : (b : Bool) (op : BinaryOp) (west east : Node) (line : ℕ) (frames : List Frame) (calls : ℕ) (state : State) (c : ℕ) → c ≤ paid (binary_begun b op west east line frames calls state c)
-by_binary true op west east line frames calls state c = with_more c 1
-by_binary false op west east line frames calls state c = with_more c 1
+by_binary : (b : Bool) (op : BinaryOp) (west east : Node) (line : ℕ) (frames : List Frame) (calls : ℕ) (state : State) (c : ℕ) → c + 1 ≤ paid (binary_begun b op west east line frames calls state c)
+by_binary true op west east line frames calls state c = same (c + 1)
+by_binary false op west east line frames calls state c = same (c + 1)
 
-by_expression : (chunk : List ItemNode) (node : Node) (frames : List Frame) (calls : ℕ) (state : State) (c : ℕ) → c ≤ paid (expression_begun chunk node frames calls state c)
-by_expression chunk t.Nil frames calls state c = with_more c 1
-by_expression chunk t.True frames calls state c = with_more c 1
-by_expression chunk t.False frames calls state c = with_more c 1
-by_expression chunk (t.Number value) frames calls state c = with_more c 1
-by_expression chunk (t.Str bytes line) frames calls state c = by_one _ _ (by_way (way_of (text line bytes)) state frames calls (c + 1))
-by_expression chunk (t.Name called) frames calls state c = with_more c 1
-by_expression chunk (t.Index table key line) frames calls state c = with_more c 1
-by_expression chunk (t.Member table called line) frames calls state c = with_more c 1
+pub by_expression : (chunk : List ItemNode) (node : Node) (frames : List Frame) (calls : ℕ) (state : State) (c : ℕ) → c + 1 ≤ paid (expression_begun chunk node frames calls state c)
+by_expression chunk t.Nil frames calls state c = same (c + 1)
+by_expression chunk t.True frames calls state c = same (c + 1)
+by_expression chunk t.False frames calls state c = same (c + 1)
+by_expression chunk (t.Number value) frames calls state c = same (c + 1)
+by_expression chunk (t.Str bytes line) frames calls state c = by_way (way_of (text line bytes)) state frames calls (c + 1)
+by_expression chunk (t.Name called) frames calls state c = same (c + 1)
+by_expression chunk (t.Index table key line) frames calls state c = same (c + 1)
+by_expression chunk (t.Member table called line) frames calls state c = same (c + 1)
 by_expression chunk (t.Call called args line) frames calls state c = by_call (function_of chunk called) args line frames calls state c
 by_expression chunk (t.MathCall called args line) frames calls state c = by_math (math_of called) args line frames calls state c
 by_expression chunk (t.TableCall called args line) frames calls state c = by_table (table_of called) args line frames calls state c
-by_expression chunk (t.Construct entries) frames calls state c = by_one _ _ (by_entries entries (length state.tables) 1 frames calls (record state { tables = state.tables ++ [] ∷ [] }) (c + 1))
-by_expression chunk (t.Unary op of line) frames calls state c = with_more c 1
+by_expression chunk (t.Construct entries) frames calls state c = by_entries entries (length state.tables) 1 frames calls (record state { tables = state.tables ++ [] ∷ [] }) (c + 1)
+by_expression chunk (t.Unary op of line) frames calls state c = same (c + 1)
 by_expression chunk (t.Binary op west east line) frames calls state c = by_binary (is_logical op) op west east line frames calls state c
 
-by_statement : (node : StatementNode) (frames : List Frame) (calls : ℕ) (state : State) (c : ℕ) → c ≤ paid (statement_begun node frames calls state c)
-by_statement (t.Local called (Some of)) frames calls state c = with_more c 1
-by_statement (t.Local called None) frames calls state c = with_more c 1
-by_statement (t.Assign called of) frames calls state c = with_more c 1
-by_statement (t.SetIndex table key of line) frames calls state c = with_more c 1
-by_statement (t.SetMember table called of line) frames calls state c = with_more c 1
-by_statement (t.CallAlone of) frames calls state c = with_more c 1
-by_statement (t.If arms) frames calls state c = by_one _ _ (by_arms arms frames calls state (c + 1))
-by_statement (t.While test body) frames calls state c = with_more c 1
-by_statement (t.Repeat body test) frames calls state c = by_one _ _ (by_repeat body test frames calls state (c + 1))
-by_statement (t.For called first last by body line) frames calls state c = by_one _ _ (by_parts (bounds_parts first last by) (Loops called body line) [] frames calls state (c + 1))
-by_statement (t.Do body) frames calls state c = by_one _ _ (by_block body (Inner (length state.locals) ∷ frames) calls state (c + 1))
-by_statement t.Break frames calls state c = with_more c 1
-by_statement (t.Return (Some of)) frames calls state c = with_more c 1
-by_statement (t.Return None) frames calls state c = with_more c 1
+pub by_statement : (node : StatementNode) (frames : List Frame) (calls : ℕ) (state : State) (c : ℕ) → c + 1 ≤ paid (statement_begun node frames calls state c)
+by_statement (t.Local called (Some of)) frames calls state c = same (c + 1)
+by_statement (t.Local called None) frames calls state c = same (c + 1)
+by_statement (t.Assign called of) frames calls state c = same (c + 1)
+by_statement (t.SetIndex table key of line) frames calls state c = same (c + 1)
+by_statement (t.SetMember table called of line) frames calls state c = same (c + 1)
+by_statement (t.CallAlone of) frames calls state c = same (c + 1)
+by_statement (t.If arms) frames calls state c = by_arms arms frames calls state (c + 1)
+by_statement (t.While test body) frames calls state c = same (c + 1)
+by_statement (t.Repeat body test) frames calls state c = by_repeat body test frames calls state (c + 1)
+by_statement (t.For called first last by body line) frames calls state c = by_parts (bounds_parts first last by) (Loops called body line) [] frames calls state (c + 1)
+by_statement (t.Do body) frames calls state c = by_block body (Inner (length state.locals) ∷ frames) calls state (c + 1)
+by_statement t.Break frames calls state c = same (c + 1)
+by_statement (t.Return (Some of)) frames calls state c = same (c + 1)
+by_statement (t.Return None) frames calls state c = same (c + 1)
 
 by_items : (main : Function) (items : List ItemNode) (state : State) (c : ℕ) → c ≤ paid (assigning main items state c)
 by_items main [] state c = by_block main.body [] 1 (entered main.params [] state) c
@@ -171,7 +168,7 @@ by_arm : (b : Bool) (body : BlockNode) (others : ArmNodes) (frames : List Frame)
 by_arm true body others frames calls state c = by_block body (Inner (length state.locals) ∷ frames) calls state c
 by_arm false body others frames calls state c = by_arms others frames calls state c
 
-by_while : (b : Bool) (test : Node) (body : BlockNode) (frames : List Frame) (calls : ℕ) (state : State) (c : ℕ) → c ≤ paid (while_if b test body frames calls state c)
+pub by_while : (b : Bool) (test : Node) (body : BlockNode) (frames : List Frame) (calls : ℕ) (state : State) (c : ℕ) → c ≤ paid (while_if b test body frames calls state c)
 by_while true test body frames calls state c = by_one _ _ (by_block body (WhileBody (length state.locals) test body ∷ frames) calls state (c + 1))
 by_while false test body frames calls state c = same c
 
@@ -228,8 +225,8 @@ at_frames main [] way calls state c = with_more c (plain_cost (plain_result (rec
 at_frames main (frame ∷ frames) way calls state c = by_frame main frame way frames calls state c
 
 by_control : (chunk : List ItemNode) (main : Function) (control : Control) (frames : List Frame) (calls : ℕ) (state : State) (c : ℕ) → c ≤ paid (turn_at chunk main control frames calls state c)
-by_control chunk main (Evaluate node) frames calls state c = by_expression chunk node frames calls state c
-by_control chunk main (Execute statement) frames calls state c = by_statement statement frames calls state c
+by_control chunk main (Evaluate node) frames calls state c = by_one _ _ (by_expression chunk node frames calls state c)
+by_control chunk main (Execute statement) frames calls state c = by_one _ _ (by_statement statement frames calls state c)
 by_control chunk main (Back way) frames calls state c = at_frames main frames way calls state c
 
 pub by_turn : (chunk : List ItemNode) (main : Function) (m : Machine) → m.cost ≤ paid (turn chunk main m)
@@ -240,26 +237,14 @@ by_turn chunk main m = by_control chunk main m.control m.frames m.calls m.state 
 next_or_end : (m : Machine) (answer : Result PlainValue Fault) (cost : ℕ) → Next m ≡ Ended answer cost → ⊥
 next_or_end m answer cost same = cc
 
-end_or_next : (m : Machine) (answer : Result PlainValue Fault) (cost : ℕ) → Ended answer cost ≡ Next m → ⊥
-end_or_next m answer cost same = cc
-
 paid_before : (chunk : List ItemNode) (main : Function) (turns : ℕ) (from : Turned) (answer : Result PlainValue Fault) (cost : ℕ) → after_turns chunk main turns from ≡ Ended answer cost → paid from ≤ cost
 paid_before chunk main turns (Ended given cost) answer all is = subst (λ n. cost ≤ n) (ap paid is) (same cost)
 paid_before chunk main zero (Next m) answer all is = absurd (next_or_end m answer all is)
 paid_before chunk main (suc turns) (Next m) answer all is = over _ _ _ (by_turn chunk main m) (paid_before chunk main turns (turn chunk main m) answer all is)
 
-paid_on_the_way : (chunk : List ItemNode) (main : Function) (some turns : ℕ) (from : Turned) (m : Machine) (answer : Result PlainValue Fault) (cost : ℕ) →
-    after_turns chunk main some from ≡ Next m → after_turns chunk main turns from ≡ Ended answer cost → m.cost ≤ cost
-paid_on_the_way chunk main some turns (Ended given cost) m answer all is ends = absurd (end_or_next m given cost is)
-paid_on_the_way chunk main zero turns (Next first) m answer all is ends = subst (λ n. n ≤ all) (ap paid is) (paid_before chunk main turns (Next first) answer all ends)
-paid_on_the_way chunk main (suc some) zero (Next first) m answer all is ends = absurd (next_or_end first answer all ends)
-paid_on_the_way chunk main (suc some) (suc turns) (Next first) m answer all is ends = paid_on_the_way chunk main some turns (turn chunk main first) m answer all is ends
-
-too_much : (most cost all : ℕ) → most < cost → cost ≤ all → all ≤ most → ⊥
-too_much most cost all g h i = omega arith
-
-pub spent_turns_run_out : (chunk : List ItemNode) (called : List ℕ) (seed : ℕ) (main : Function) (turns : ℕ) (m : Machine) → function_of chunk called ≡ Some main →
-    after_turns chunk main turns (begins chunk main seed) ≡ Next m → most_units < m.cost → RunsOut chunk called seed
-spent_turns_run_out chunk called seed main turns m is at spent answer cost given =
-    let ends = (turns_yield chunk called seed main answer cost is).0 given.0 in
-    too_much most_units m.cost cost spent (paid_on_the_way chunk main turns ends.0 (begins chunk main seed) m answer cost at ends.1) given.1
+pub paid_on_the_way : (chunk : List ItemNode) (main : Function) (some turns : ℕ) (from : Turned) (answer : Result PlainValue Fault) (cost : ℕ) →
+    after_turns chunk main turns from ≡ Ended answer cost → paid (after_turns chunk main some from) ≤ cost
+paid_on_the_way chunk main some turns (Ended given cost) answer all ends = subst (λ n. cost ≤ n) (ap paid ends) (same cost)
+paid_on_the_way chunk main zero turns (Next first) answer all ends = paid_before chunk main turns (Next first) answer all ends
+paid_on_the_way chunk main (suc some) zero (Next first) answer all ends = absurd (next_or_end first answer all ends)
+paid_on_the_way chunk main (suc some) (suc turns) (Next first) answer all ends = paid_on_the_way chunk main some turns (turn chunk main first) answer all ends

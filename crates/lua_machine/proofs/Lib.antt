@@ -8,3 +8,4 @@ mod Growing
 mod FoundParts
 mod FoundExpressions
 mod FoundStatements
+mod Settling

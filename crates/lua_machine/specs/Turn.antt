@@ -1,5 +1,5 @@
 -- One turn of the machine. What a frame waits for comes back to it alone; a fault ends all.
-use Rattle.std.specs.Prelude.{◌≡◌, ◌↔◌, ℕ, zero, suc, ◌+◌, ◌-◌, ◌<◌, pos, Bool, true, false, nat_lt, List, [], ◌∷◌, ◌++◌, length, drop, Option, Some, None, Result, Ok, Err}
+use Rattle.std.specs.Prelude.{◌≡◌, ◌↔◌, ◌⊎◌, ℕ, zero, suc, ◌+◌, ◌-◌, ◌<◌, pos, Bool, true, false, nat_lt, List, [], ◌∷◌, ◌++◌, length, drop, Option, Some, None, Result, Ok, Err}
 use Rattle.lua_tree.specs.declared.tree.BinaryOp.{BinaryOp}
 use Rattle.lua_tree.specs.declared.tree.BinaryOp.TheVariants as op_of
 use Rattle.lua_machine.specs.Tree as t
@@ -290,7 +290,38 @@ abbrev pub TurnsYield : Type 0
 TurnsYield = (chunk : List ItemNode) (called : List ℕ) (seed : ℕ) (main : Function) (answer : Result PlainValue Fault) (cost : ℕ) → function_of chunk called ≡ Some main →
     Yields chunk called seed answer cost ↔ Ends chunk main (begins chunk main seed) answer cost
 
--- where turns have paid more than may be paid, no answer comes
+-- what has been paid behind a turn
+abbrev pub paid : Turned → ℕ
+paid (Next m) = m.cost
+paid (Ended answer cost) = cost
+
+-- no answer comes within the units that may be paid exactly where turns come to have paid more
 abbrev pub SpentTurnsRunOut : Type 0
-SpentTurnsRunOut = (chunk : List ItemNode) (called : List ℕ) (seed : ℕ) (main : Function) (turns : ℕ) (m : Machine) → function_of chunk called ≡ Some main →
-    after_turns chunk main turns (begins chunk main seed) ≡ Next m → most_units < m.cost → RunsOut chunk called seed
+SpentTurnsRunOut = (chunk : List ItemNode) (called : List ℕ) (seed : ℕ) (main : Function) → function_of chunk called ≡ Some main →
+    RunsOut chunk called seed ↔ ((turns : ℕ) × (most_units < paid (after_turns chunk main turns (begins chunk main seed))))
+
+-- ---- how many turns may come before a unit is paid
+
+abbrev pub frame_weight : Frame → ℕ
+frame_weight (Part making values others) = 2
+frame_weight (NextEntry at next others) = 2
+frame_weight (NamedEntry at next called others) = 2
+frame_weight (ArmTest body others) = 2
+frame_weight _ = 1
+
+abbrev pub frames_weight : List Frame → ℕ
+frames_weight [] = 0
+frames_weight (frame ∷ frames) = frame_weight frame + frames_weight frames
+
+abbrev pub control_weight : Control → ℕ
+control_weight (Evaluate node) = 0
+control_weight (Execute statement) = 0
+control_weight (Back way) = 1
+
+abbrev pub unpaid_turns : Machine → ℕ
+unpaid_turns m = control_weight m.control + frames_weight m.frames
+
+-- a turn pays, or fewer turns are left that may pay nothing
+abbrev pub TurnsPay : Type 0
+TurnsPay = (chunk : List ItemNode) (main : Function) (m next : Machine) → turn chunk main m ≡ Next next →
+    (m.cost < next.cost) ⊎ ((next.cost ≡ m.cost) × (unpaid_turns next < unpaid_turns m))

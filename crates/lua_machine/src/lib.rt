@@ -12,8 +12,8 @@
 //! of it, with one case for each kind of node and of frame.
 //!
 //! `laws` says that a call gives one answer at most; that turns come to an answer at a cost exactly where the call gives
-//! it at that cost; and that a call whose turns have paid more units than may be paid runs out. Nothing here evaluates a
-//! chunk yet.
+//! it at that cost; that the call runs out exactly where turns come to pay more units than may be paid; and that each turn
+//! pays a unit, or leaves fewer turns that may come before the next one is paid. Nothing here evaluates a chunk yet.
 #![tactic(auto)]
 
 mod error;
