@@ -21,9 +21,11 @@ abbrev pub back_by : Way → State → List Frame → ℕ → ℕ → Turned
 back_by (Fails why) state frames calls cost = Ended (Err why) cost
 back_by way state frames calls cost = Next (record { control = Back way; frames = frames; calls = calls; state = state; cost = cost })
 
+-- with a way out of a statement and the state behind it
 abbrev pub left : Gone → List Frame → ℕ → ℕ → Turned
 left gone frames calls cost = back_by gone.way gone.state frames calls cost
 
+-- a value comes back as the way `Returns`
 abbrev pub way_of : Result LuaValue Fault → Way
 way_of (Ok value) = Returns value
 way_of (Err why) = Fails why
@@ -39,6 +41,7 @@ value_in _ = Nil
 
 -- ---- how parts are begun
 
+-- an expression
 abbrev pub evaluating : Node → List Frame → ℕ → State → ℕ → Turned
 evaluating node frames calls state cost = Next (record { control = Evaluate node; frames = frames; calls = calls; state = state; cost = cost })
 
@@ -61,6 +64,7 @@ choosing (t.arm test body others) frames calls state cost = evaluating test (Arm
 abbrev pub repeating : BlockNode → Node → List Frame → ℕ → State → ℕ → Turned
 repeating body test frames calls state cost = running body (RepeatBody (length state.locals) body test ∷ frames) calls state (cost + 1)
 
+-- a turn of a `for`, if one comes; its name is a new local of the turn
 abbrev pub turning_if : Bool → List ℕ → Bounds → BlockNode → List Frame → ℕ → State → ℕ → Turned
 turning_if false called bounds body frames calls state cost = left (goes state) frames calls cost
 turning_if true called bounds body frames calls state cost = running body (ForBody (length state.locals) called bounds body ∷ frames) calls (declared called (Number bounds.first) state) (cost + 1)
@@ -69,6 +73,7 @@ turning_if true called bounds body frames calls state cost = running body (ForBo
 abbrev pub turning : List ℕ → Bounds → BlockNode → List Frame → ℕ → State → ℕ → Turned
 turning called bounds body frames calls state cost = turning_if (comes bounds) called bounds body frames calls state cost
 
+-- a `for` with its bounds, unless they are a fault
 abbrev pub looping : Result Bounds Fault → List ℕ → BlockNode → List Frame → ℕ → State → ℕ → Turned
 looping (Ok bounds) called body frames calls state cost = turning called bounds body frames calls state cost
 looping (Err why) called body frames calls state cost = Ended (Err why) cost
@@ -91,10 +96,12 @@ filled at next key value others frames calls state cost = filling at next others
 
 -- ---- what becomes of parts
 
+-- an entry with a key, if it is one
 abbrev pub keyed_if : Bool → ℕ → ℕ → EntryNodes → ℕ → LuaValue → LuaValue → List Frame → ℕ → State → ℕ → Turned
 keyed_if true at next others line key value frames calls state cost = filled at next key value others frames calls state cost
 keyed_if false at next others line key value frames calls state cost = Ended (Err (TypeFault line)) cost
 
+-- an entry with a key, of which key and value are there
 abbrev pub keyed : ℕ → ℕ → EntryNodes → ℕ → List LuaValue → List Frame → ℕ → State → ℕ → Turned
 keyed at next others line (key ∷ value ∷ []) frames calls state cost = keyed_if (is_key key) at next others line key value frames calls state cost
 keyed at next others line _ frames calls state cost = Ended (Err (TypeFault line)) cost
@@ -127,34 +134,42 @@ pub record Quotient : Type 0 where
   pub right : Node
   pub line : ℕ
 
+-- the quotient that the arguments are as a whole
 abbrev pub quotient_of : Nodes → Option Quotient
 quotient_of (t.Binary op_of.Over left right line and none) = Some (record { left = left; right = right; line = line })
 quotient_of _ = None
 
+-- the quotient of which `math.floor` gives the floor
 abbrev pub under_floor : MathFunction → Nodes → Option Quotient
 under_floor Floor args = quotient_of args
 under_floor _ args = None
 
+-- a call of a function of `math`: the quotient under `math.floor` is a node of its own, which pays its unit too
 abbrev pub math_by : Option Quotient → MathFunction → Nodes → ℕ → List Frame → ℕ → State → ℕ → Turned
 math_by (Some of) function args line frames calls state cost = begun (Floors of.line) [] (of.left and of.right and none) frames calls state (cost + 2)
 math_by None function args line frames calls state cost = begun (Math function line) [] args frames calls state (cost + 1)
 
+-- a call of `math`, whose name is looked at before its arguments
 abbrev pub math_begun : Option MathFunction → Nodes → ℕ → List Frame → ℕ → State → ℕ → Turned
 math_begun (Some function) args line frames calls state cost = math_by (under_floor function args) function args line frames calls state cost
 math_begun None args line frames calls state cost = Ended (Err (UnknownName line)) (cost + 1)
 
+-- a call of `table`, likewise
 abbrev pub table_begun : Option TableFunction → Nodes → ℕ → List Frame → ℕ → State → ℕ → Turned
 table_begun (Some function) args line frames calls state cost = begun (Tables function line) [] args frames calls state (cost + 1)
 table_begun None args line frames calls state cost = Ended (Err (UnknownName line)) (cost + 1)
 
+-- a call of a function of the chunk, likewise
 abbrev pub call_begun : Option Function → Nodes → ℕ → List Frame → ℕ → State → ℕ → Turned
 call_begun (Some function) args line frames calls state cost = begun (Calls function line) [] args frames calls state (cost + 1)
 call_begun None args line frames calls state cost = Ended (Err (UnknownName line)) (cost + 1)
 
+-- a binary operator: `and` and `or` begin with their left side alone
 abbrev pub binary_begun : Bool → BinaryOp → Node → Node → ℕ → List Frame → ℕ → State → ℕ → Turned
 binary_begun true op left right line frames calls state cost = evaluating left (LeftSide op right ∷ frames) calls state (cost + 1)
 binary_begun false op left right line frames calls state cost = begun (Binary op line) [] (left and right and none) frames calls state (cost + 1)
 
+-- an expression, by its kind
 abbrev pub expression_begun : List ItemNode → Node → List Frame → ℕ → State → ℕ → Turned
 expression_begun chunk t.Nil frames calls state cost = back (gives Nil state) frames calls (cost + 1)
 expression_begun chunk t.True frames calls state cost = back (gives (Truth true) state) frames calls (cost + 1)
@@ -171,7 +186,7 @@ expression_begun chunk (t.Construct entries) frames calls state cost = filling (
 expression_begun chunk (t.Unary op of line) frames calls state cost = begun (Unary op line) [] (of and none) frames calls state (cost + 1)
 expression_begun chunk (t.Binary op left right line) frames calls state cost = binary_begun (is_logical op) op left right line frames calls state cost
 
--- a loop's first turn is begun with it where nothing has to be evaluated before
+-- a statement, by its kind; a loop's first turn is begun with it where nothing has to be evaluated before
 abbrev pub statement_begun : StatementNode → List Frame → ℕ → State → ℕ → Turned
 statement_begun (t.Local called (Some of)) frames calls state cost = evaluating of (Declares called ∷ frames) calls state (cost + 1)
 statement_begun (t.Local called None) frames calls state cost = left (goes (declared called Nil state)) frames calls (cost + 1)
@@ -196,10 +211,12 @@ assigning main (t.Set called of ∷ more) state cost = Next (record { control = 
 
 -- ---- back at a frame: what it does
 
+-- the left side of `and` or `or` decides, or the right side is the value
 abbrev pub decided_if : Bool → Node → LuaValue → List Frame → ℕ → State → ℕ → Turned
 decided_if true right value frames calls state cost = back (gives value state) frames calls cost
 decided_if false right value frames calls state cost = evaluating right frames calls state cost
 
+-- an arm whose test holds, or the arms behind it
 abbrev pub arm_if : Bool → BlockNode → ArmNodes → List Frame → ℕ → State → ℕ → Turned
 arm_if true body others frames calls state cost = running body (Inner (length state.locals) ∷ frames) calls state cost
 arm_if false body others frames calls state cost = choosing others frames calls state cost
@@ -209,14 +226,17 @@ abbrev pub while_if : Bool → Node → BlockNode → List Frame → ℕ → Sta
 while_if true test body frames calls state cost = running body (WhileBody (length state.locals) test body ∷ frames) calls state (cost + 1)
 while_if false test body frames calls state cost = left (goes state) frames calls cost
 
+-- a `repeat` ends where its test holds, and else begins its next turn
 abbrev pub until_if : Bool → ℕ → BlockNode → Node → List Frame → ℕ → State → ℕ → Turned
 until_if true outer body test frames calls state cost = left (goes (cut_to outer state)) frames calls cost
 until_if false outer body test frames calls state cost = repeating body test frames calls (cut_to outer state) cost
 
+-- a statement ended in some way: the statements behind it come next, or the block ends in that way
 abbrev pub others_by : Way → BlockNode → List Frame → ℕ → State → ℕ → Turned
 others_by Goes others frames calls state cost = running others frames calls state cost
 others_by way others frames calls state cost = back_by way state frames calls cost
 
+-- the body of a `while` ended in some way
 abbrev pub while_by : Way → ℕ → Node → BlockNode → List Frame → ℕ → State → ℕ → Turned
 while_by Goes outer test body frames calls state cost = evaluating test (WhileTest test body ∷ frames) calls (cut_to outer state) cost
 while_by way outer test body frames calls state cost = back_by (out_of_loop way) (cut_to outer state) frames calls cost
@@ -226,10 +246,12 @@ abbrev pub repeat_by : Way → ℕ → BlockNode → Node → List Frame → ℕ
 repeat_by Goes outer body test frames calls state cost = evaluating test (RepeatTest outer body test ∷ frames) calls state cost
 repeat_by way outer body test frames calls state cost = back_by (out_of_loop way) (cut_to outer state) frames calls cost
 
+-- the body of a `for` ended in some way
 abbrev pub for_by : Way → ℕ → List ℕ → Bounds → BlockNode → List Frame → ℕ → State → ℕ → Turned
 for_by Goes outer called bounds body frames calls state cost = turning called (next_turn bounds) body frames calls (cut_to outer state) cost
 for_by way outer called bounds body frames calls state cost = back_by (out_of_loop way) (cut_to outer state) frames calls cost
 
+-- a frame goes on with what comes back to it
 abbrev pub resumed : Function → Frame → Way → List Frame → ℕ → State → ℕ → Turned
 resumed main (Part making values others) way frames calls state cost = begun making (values ++ value_in way ∷ []) others frames calls state cost
 resumed main (LeftSide op right) way frames calls state cost = decided_if (decides op (value_in way)) right (value_in way) frames calls state cost
@@ -254,12 +276,14 @@ resumed main (Items items) way frames calls state cost = assigning main items st
 abbrev pub finished_by : Way → State → ℕ → Turned
 finished_by way state cost = Ended (plain_value (plain_result (record { way = way; state = state }))) (cost + plain_cost (plain_result (record { way = way; state = state })))
 
+-- the innermost frame goes on
 abbrev pub back_at : Function → List Frame → Way → ℕ → State → ℕ → Turned
 back_at main [] way calls state cost = finished_by way state cost
 back_at main (frame ∷ frames) way calls state cost = resumed main frame way frames calls state cost
 
 -- ---- turns
 
+-- a turn, by where the machine is
 abbrev pub turn_at : List ItemNode → Function → Control → List Frame → ℕ → State → ℕ → Turned
 turn_at chunk main (Evaluate node) frames calls state cost = expression_begun chunk node frames calls state cost
 turn_at chunk main (Execute statement) frames calls state cost = statement_begun statement frames calls state cost
@@ -302,6 +326,7 @@ SpentTurnsRunOut = (chunk : List ItemNode) (called : List ℕ) (seed : ℕ) (mai
 
 -- ---- how many turns may come before a unit is paid
 
+-- the turns that a frame may take at most without paying: for most it is the one that goes on with it
 abbrev pub frame_weight : Frame → ℕ
 frame_weight (Part making values others) = 2
 frame_weight (NextEntry at next others) = 2
@@ -309,15 +334,18 @@ frame_weight (NamedEntry at next called others) = 2
 frame_weight (ArmTest body others) = 2
 frame_weight _ = 1
 
+-- of all frames
 abbrev pub frames_weight : List Frame → ℕ
 frames_weight [] = 0
 frames_weight (frame ∷ frames) = frame_weight frame + frames_weight frames
 
+-- what comes back takes a turn, and a node pays at its own
 abbrev pub control_weight : Control → ℕ
 control_weight (Evaluate node) = 0
 control_weight (Execute statement) = 0
 control_weight (Back way) = 1
 
+-- of a configuration
 abbrev pub unpaid_turns : Machine → ℕ
 unpaid_turns m = control_weight m.control + frames_weight m.frames
 
