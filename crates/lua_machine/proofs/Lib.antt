@@ -1,3 +1,11 @@
 pub mod Worked
 pub mod Once
 pub mod OneAnswer
+mod Reached
+mod Found
+mod TurnLaws
+mod Growing
+mod FoundParts
+mod FoundExpressions
+mod FoundStatements
+mod Settling

@@ -1,5 +1,5 @@
 -- Small chunks and what they come to, derived.
-use Rattle.std.proofs.Common.{ℕ, pos, List, [], ◌∷◌, refl, codes, Ok, Err}
+use Rattle.std.proofs.Common.{◌≡◌, ℕ, pos, List, [], ◌∷◌, refl, codes, Ok, Err}
 use Rattle.std.specs.Prelude.{Some}
 use Rattle.std.specs.Fmt.{digits}
 use Rattle.lua_tree.specs.declared.tree.UnaryOp.TheVariants as unary_op
@@ -12,6 +12,9 @@ use Rattle.lua_machine.specs.Tree as t
 use Rattle.lua_machine.specs.Tree.{Node, BlockNode, ItemNode, none, ◌and◌, finished, ◌andthen◌}
 use Rattle.lua_machine.specs.Answer.{PlainNumber, PlainText, Yields, yields}
 use Rattle.lua_machine.specs.Answer as answer
+use Rattle.lua_machine.specs.Library.{chosen}
+use Rattle.lua_machine.specs.Turn.{after_turns, begins}
+use Rattle.lua_machine.specs.Machine.{Turned, Ended}
 
 -- a chunk with one function, which is this expression
 abbrev returning : Node → List ItemNode
@@ -101,3 +104,28 @@ summing_yields seed = yields (answer.function answer.no_more) refl
     (y.turn_on refl (y.on (y.assign (y.binary refl (y.onward y.name (y.onward y.name y.all)))) y.finished)
     (y.past refl)))))
     (y.ended (y.return_with y.name) refl)))
+
+-- ---- the same by the turns of the machine
+
+abbrev turned : ℕ → BlockNode → Turned
+turned turns body = after_turns (t.Function (codes "f") [] body ∷ []) (record { params = []; body = body }) turns (begins (t.Function (codes "f") [] body ∷ []) (record { params = []; body = body }) 7)
+
+modulo_turns : turned 20 (t.Return (Some modulo) andthen finished) ≡ Ended (Ok (PlainNumber (pos 2))) 6
+unfolding modulo
+modulo_turns = refl
+
+summing_turns : turned 80 summing ≡ Ended (Ok (PlainNumber (pos 6))) 25
+unfolding summing
+summing_turns = refl
+
+half_turns : turned 20 (t.Return (Some half) andthen finished) ≡ Ended (Ok (PlainNumber (pos 3))) 6
+unfolding half
+half_turns = refl
+
+beyond_turns : turned 20 (t.Return (Some beyond) andthen finished) ≡ Ended (Err (OutOfRange 1)) 4
+unfolding beyond
+beyond_turns = refl
+
+-- the word is multiplied before it is divided
+half_way : chosen 2147483648 (pos 1) (pos 10) ≡ pos 6
+half_way = refl

@@ -7,3 +7,5 @@ pub mod Library
 pub mod Functions
 pub mod Yields
 pub mod Answer
+pub mod Machine
+pub mod Turn

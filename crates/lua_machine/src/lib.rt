@@ -7,7 +7,13 @@
 //! (`Operators.antt`, `Library.antt`). A chunk that never ends comes to nothing there, and a call that would pay
 //! more than 500,000 units runs out (`RunsOut`).
 //!
-//! `laws` says that a call gives one answer at most. Nothing here evaluates a chunk yet.
+//! `specs/Machine.antt` has the configurations of a machine that does the same step by step: the node that it is at,
+//! or the way that comes back, the frames of what waits, the state, and the units paid. `specs/Turn.antt` has one turn
+//! of it, with one case for each kind of node and of frame.
+//!
+//! `laws` says that a call gives one answer at most; that turns come to an answer at a cost exactly where the call gives
+//! it at that cost; that the call runs out exactly where turns come to pay more units than may be paid; and that each turn
+//! pays a unit, or leaves fewer turns that may come before the next one is paid. Nothing here evaluates a chunk yet.
 #![tactic(auto)]
 
 mod error;
