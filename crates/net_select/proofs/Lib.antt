@@ -1,4 +1,9 @@
 pub mod Lengths
+mod Counting
+mod Composing
+mod Parts
+mod Directions
+mod Sound
 pub mod Runs
 pub mod Follows
 pub mod Statements
