@@ -1,6 +1,7 @@
 -- A walk through the statements of a block.
 use Rattle.std.proofs.Common.{◌≡◌, ◌<◌, ◌≤◌, ◌⊎◌, inl, inr, ℕ, zero, suc, ◌+◌, Bool, true, false, List, [], ◌∷◌, drop, refl, sym, ap, subst, ◌∙◌, arith}
 use Rattle.std.specs.Prelude.{Some, slice_get, option_map, sum_by, ◌||◌}
+use Rattle.std.proofs.lemmas.List.Sums.{sum_by-cons}
 use Rattle.net_tree.specs.declared.tree.Statement.TheVariants as held_as
 use Rattle.net_tree.specs.declared.tree.Statement.TheFolds as folds
 use Rattle.net_tree.specs.declared.tree.Statement.TheOpen as level
@@ -40,7 +41,8 @@ smaller (Then line first rest) (suc index) statement is = let more = smaller res
 pub next_sum : {N : Type 0} (f : Statement N → ℕ) (statements : List (ℕ × Statement N)) (index : ℕ) (statement : Statement N) → option_map (λ s. s.1) (slice_get statements index) ≡ Some statement →
     sum_by (λ s. f s.1) (drop index statements) ≡ f statement + sum_by (λ s. f s.1) (drop (index + 1) statements)
 next_sum {N = N} f [] index statement is = absurd (no_statement (λ (s : ℕ × Statement N). s.1) index statement is)
-next_sum {N = N} f (s ∷ statements) zero statement is = ap (λ (st : Statement N). f st + sum_by (λ (x : ℕ × Statement N). f x.1) statements) (same_statement s.1 statement is)
+next_sum {N = N} f (s ∷ statements) zero statement is =
+    sum_by-cons (λ (x : ℕ × Statement N). f x.1) s statements ∙ ap (λ (st : Statement N). f st + sum_by (λ (x : ℕ × Statement N). f x.1) statements) (same_statement s.1 statement is)
 next_sum {N = N} f (s ∷ statements) (suc index) statement is =
     let more : suc (index + 1) ≡ suc index + 1 = omega arith in
     next_sum f statements index statement is ∙ ap (λ (n : ℕ). f statement + sum_by (λ (x : ℕ × Statement N). f x.1) (drop n (s ∷ statements))) more
