@@ -1,5 +1,5 @@
 pub mod Walks
-mod Counting
+pub mod Counting
 mod LineOrder
 mod FirstLoop
 pub mod Costs

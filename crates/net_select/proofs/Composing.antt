@@ -6,7 +6,7 @@ use Rattle.tis_asm.specs.declared.program.MarkedInstr.{MarkedInstr}
 use Rattle.net_tree.specs.Tree.{Statement, Block, Empty, Then, statements_of}
 use Rattle.net_rules.proofs.Walks.{no_statement, next_sum}
 use Rattle.net_select.specs.Selection.{Ports, Code, unmarked, as_program, with_code, statement_code, statement_lines, block_code, block_lines}
-use Rattle.net_select.proofs.Lengths.{statement_has}
+use Rattle.net_select.proofs.Lengths.{statement_has, block_has}
 use Rattle.net_select.proofs.Counting.{lines_in, lines_in_all}
 
 abbrev pub Program : Type 0
@@ -15,6 +15,10 @@ Program = List MarkedInstr
 -- a program is longer by what was put behind it
 pub longer : (before after : Program) (code : Code) → after ≡ before ++ as_program code → length after ≡ length before + length code
 longer before after code is = ap length is ∙ length-append before (as_program code) ∙ ap (λ (n : ℕ). length before + n) (length-map code unmarked)
+
+-- and by the lines of a block
+pub grown : (ports : Ports) (total : ℕ) (before after : Program) (block : Block ℕ) → after ≡ with_code before (block_code ports total block) → length after ≡ length before + block_lines block
+grown ports total before after block is = longer before after (block_code ports total block (length before)) is ∙ ap (λ (n : ℕ). length before + n) (block_has ports total block (length before))
 
 -- two codes, one behind the other
 pub two : (before between after : Program) (one other : Code) → between ≡ before ++ as_program one → after ≡ between ++ as_program other → after ≡ before ++ as_program (one ++ other)

@@ -1,7 +1,10 @@
 -- How many instructions a block has, counted by a walk through it, and that they are few where the statements are.
 use Rattle.std.proofs.Common.{◌≡◌, ◌≤◌, ◌<◌, ℕ, zero, suc, ◌+◌, ◌*◌, ◌-◌, ◌^◌, Bool, true, false, cond, List, [], ◌∷◌, length, drop, map, get_or, refl, sym, ap, subst, ◌∙◌, arith}
 use Rattle.std.specs.Prelude.{Some, slice_get, option_map, sum_by}
+use Rattle.std.specs.Prelude.{◌==◌}
+use Rattle.std.proofs.lemmas.Bool.{ne_eqb}
 use Rattle.std.proofs.lemmas.List.{drop_all}
+use Rattle.std.proofs.lemmas.List.Sums.{sum_by-cons}
 use Rattle.tis_asm.specs.declared.instr.Instr.TheVariants.{Nop}
 use Rattle.net_tree.specs.declared.tree.Var.{Var}
 use Rattle.net_tree.specs.declared.tree.Var.TheVariants.{X, Y}
@@ -10,6 +13,7 @@ use Rattle.net_tree.specs.Tree.{Name, Statement, Get, GetAdd, GetSub, Put, PutNu
 use Rattle.net_rules.specs.Numbers.{block_with, statement_with, number_in, numbered}
 use Rattle.net_rules.specs.Sizes.{statements_in, statements_inside, statement_count, held_count}
 use Rattle.net_rules.proofs.Walks.{next_sum}
+use Rattle.net_rules.proofs.Counting.{Counts, counts_on, counts_end}
 use Rattle.net_select.specs.Selection.{on, copy_code, jumps_where_held, if_frame, leaving_frame, entering_frame, while_frame, count_frame, jumped, statement_lines, block_lines}
 
 -- ---- by a walk
@@ -20,27 +24,28 @@ lines_in statements = sum_by (λ s. statement_lines s.1) statements
 
 pub lines_in_all : (block : Block ℕ) → block_lines block ≡ lines_in (statements_of block)
 lines_in_all Empty = refl
-lines_in_all (Then line statement rest) = ap (λ (n : ℕ). statement_lines statement + n) (lines_in_all rest)
+lines_in_all (Then line statement rest) = ap (λ (n : ℕ). statement_lines statement + n) (lines_in_all rest) ∙ sym (sum_by-cons (λ (s : ℕ × Statement ℕ). statement_lines s.1) (line, statement) (statements_of rest))
 
 -- one more statement was counted
-pub lines_next : (block : Block ℕ) (index : ℕ) (statement : Statement ℕ) (lines one new : ℕ) → held_count (block_lines block) ≡ held_count (lines + lines_in (drop index (statements_of block))) → option_map (λ s. s.1) (slice_get (statements_of block) index) ≡ Some statement →
-    one ≡ held_count (statement_lines statement) → new ≡ held_count (lines + one) → held_count (block_lines block) ≡ held_count (new + lines_in (drop (index + 1) (statements_of block)))
-lines_next block index statement lines one new so here one_is new_is =
-    let next = next_sum statement_lines (statements_of block) index statement here in
-    omega (arith, next)
+pub lines_next : (block : Block ℕ) (index : ℕ) (statement : Statement ℕ) (lines one new : ℕ) → Counts (block_lines block) (lines_in (drop index (statements_of block))) lines → option_map (λ s. s.1) (slice_get (statements_of block) index) ≡ Some statement →
+    one ≡ held_count (statement_lines statement) → new ≡ held_count (lines + one) → Counts (block_lines block) (lines_in (drop (index + 1) (statements_of block))) new
+lines_next block index statement lines one new counts here one_is new_is =
+    counts_on (block_lines block) (lines_in (drop index (statements_of block))) (lines_in (drop (index + 1) (statements_of block))) (statement_lines statement) lines one new counts (next_sum statement_lines (statements_of block) index statement here) one_is new_is
 
 -- all were counted
-pub lines_done : (block : Block ℕ) (index lines : ℕ) → held_count (block_lines block) ≡ held_count (lines + lines_in (drop index (statements_of block))) → length (statements_of block) ≤ index → lines < 2 ^ 64 → lines ≡ held_count (block_lines block)
-lines_done block index lines so past small =
-    let none : lines_in (drop index (statements_of block)) ≡ 0 = ap lines_in (drop_all index (statements_of block) past) in
-    omega (arith, none)
+pub lines_done : (block : Block ℕ) (index lines : ℕ) → Counts (block_lines block) (lines_in (drop index (statements_of block))) lines → length (statements_of block) ≤ index → lines ≡ held_count (block_lines block)
+lines_done block index lines counts past = counts_end (block_lines block) (lines_in (drop index (statements_of block))) lines counts (ap lines_in (drop_all index (statements_of block) past))
 
 -- ---- an `if`
+
+-- a block with code that is jumped to
+pub reached_some : (lines : ℕ) → 0 < lines → if_frame X lines ≡ 2
+reached_some lines some = ap (λ (b : Bool). cond b 1 2) (ne_eqb lines 0 (λ e. omega arith))
 
 -- a count that stops at the greatest number is none exactly where the count is
 frame_held : (var : Var) (n : ℕ) → if_frame var (held_count n) ≡ if_frame var n
 frame_held X zero = refl
-frame_held X (suc n) = refl
+frame_held X (suc n) = reached_some (held_count (suc n)) (omega arith) ∙ sym (reached_some (suc n) (omega arith))
 frame_held Y n = refl
 
 -- counts that stop at the greatest number give the count that does
@@ -64,8 +69,11 @@ copy_few Y X = omega arith
 copy_few Y Y = omega arith
 
 if_few : (var : Var) (n : ℕ) → if_frame var n ≤ 9
-if_few X zero = omega arith
-if_few X (suc n) = omega arith
+if_few X n = by (n == 0)
+  where
+    by : (b : Bool) → cond b 1 2 ≤ 9
+    by true = omega arith
+    by false = omega arith
 if_few Y n = omega arith
 
 while_few : (var : Var) (test : Test) → while_frame var test ≤ 9
@@ -137,8 +145,14 @@ mutual
 -- a process has no more statements than all have
 few_at : (name : Name → ℕ) (processes : List ProcessText) (index : ℕ) → statements_in (get_or (map (λ process. block_with name process.body) processes) index Empty) ≤ sum_by (λ (process : ProcessText). statements_in process.body) processes
 few_at name [] index = omega arith
-few_at name (process ∷ processes) zero = let same = in_with name process.body in omega (arith, same)
-few_at name (process ∷ processes) (suc index) = let few = few_at name processes index in omega (arith, few)
+few_at name (process ∷ processes) zero =
+    let same = in_with name process.body in
+    let all = sum_by-cons (λ (p : ProcessText). statements_in p.body) process processes in
+    omega (arith, same, all)
+few_at name (process ∷ processes) (suc index) =
+    let few = few_at name processes index in
+    let all = sum_by-cons (λ (p : ProcessText). statements_in p.body) process processes in
+    omega (arith, few, all)
 
 -- the code of a process of a network of fewer than 2^31 statements is no longer than 64 bits tell
 pub lines_held : (net : Net) (index : ℕ) → statement_count net < 2 ^ 31 → held_count (block_lines (get_or (numbered net).processes index Empty)) ≡ block_lines (get_or (numbered net).processes index Empty)

@@ -1,6 +1,7 @@
 -- The direction of a number, found in a list.
 use Rattle.std.proofs.Common.{◌≡◌, ℕ, zero, suc, ◌+◌, ◌<◌, ◌≤◌, Bool, true, false, cond, List, [], ◌∷◌, ◌++◌, length, drop, get_or, refl, sym, ap, subst, ◌∙◌, arith, true≢false, eqb-true, eq-eqb}
 use Rattle.std.specs.Prelude.{Option, Some, None, slice_set, ◌==◌}
+use Rattle.std.specs.Bool.{OnTrue}
 use Rattle.std.specs.List.{position_from}
 use Rattle.tis_base.specs.declared.tiles.Dir.{Dir}
 use Rattle.net_select.specs.declared.ports.PortAt.{PortAt}
@@ -9,7 +10,7 @@ use Rattle.net_select.specs.HeldPorts.{port_of}
 abbrev pub Found : ℕ → PortAt → Bool
 Found number port = port.number == number
 
-abbrev at : ℕ → Dir → PortAt
+abbrev pub at : ℕ → Dir → PortAt
 at number dir = record { number = number; dir = dir }
 
 -- the direction of each number where one of them has a new one
@@ -56,10 +57,11 @@ some_is x y e = cc
 
 stands_from : (number : ℕ) (ports : List PortAt) (from place : ℕ) → position_from (Found number) from ports ≡ Some place → (k : ℕ) × (place ≡ from + k) × StandsAt number ports k
 stands_from number [] from place is = absurd cc
-stands_from number (first ∷ others) from place is = by (first.number == number) refl is
+stands_from number (first ∷ others) from place is = by (first.number == number) refl is (stands_from number others (from + 1) place)
   where
-    by : (b : Bool) → (first.number == number) ≡ b → cond b (Some from) (position_from (Found number) (from + 1) others) ≡ Some place → (k : ℕ) × (place ≡ from + k) × StandsAt number (first ∷ others) k
-    by true here found = (
+    by : (b : Bool) → (first.number == number) ≡ b → cond b (Some from) (position_from (Found number) (from + 1) others) ≡ Some place → (position_from (Found number) (from + 1) others ≡ Some place → (k : ℕ) × (place ≡ (from + 1) + k) × StandsAt number others k) →
+        (k : ℕ) × (place ≡ from + k) × StandsAt number (first ∷ others) k
+    by true here found later = (
       0,
       let same = some_is from place found in omega (arith, same),
       record {
@@ -68,8 +70,8 @@ stands_from number (first ∷ others) from place is = by (first.number == number
         set = λ dir other. same_or_not number other first.number dir (Some first.dir) (port_of others other) here;
       },
     )
-    by false apart found =
-        let more = stands_from number others (from + 1) place found in (
+    by false apart found later =
+        let more = later found in (
           suc more.0,
           let same = more.1 in omega (arith, same),
           record {
@@ -96,12 +98,12 @@ stands_nowhere_from number [] from is = record { none = refl; set = λ dir other
         by true false one two = absurd (true≢false (sym (eq-eqb other number (sym (eqb-true number other one))) ∙ two))
         by false true one two = absurd (true≢false (sym (eq-eqb number other (sym (eqb-true other number two))) ∙ one))
         by false false one two = refl
-stands_nowhere_from number (first ∷ others) from is = by (first.number == number) refl is
+stands_nowhere_from number (first ∷ others) from is = by (first.number == number) refl is (stands_nowhere_from number others (from + 1))
   where
-    by : (b : Bool) → (first.number == number) ≡ b → cond b (Some from) (position_from (Found number) (from + 1) others) ≡ None → StandsNowhere number (first ∷ others)
-    by true here found = absurd cc
-    by false apart found =
-        let more = stands_nowhere_from number others (from + 1) found in
+    by : (b : Bool) → (first.number == number) ≡ b → cond b (Some from) (position_from (Found number) (from + 1) others) ≡ None → (position_from (Found number) (from + 1) others ≡ None → StandsNowhere number others) → StandsNowhere number (first ∷ others)
+    by true here found later = absurd cc
+    by false apart found later =
+        let more = later found in
         record {
           none = ap (λ (b : Bool). cond b (Some first.dir) (port_of others number)) apart ∙ more.none;
           set = λ dir other. passed_by number other first.number dir first.dir (port_of others other) _ apart (more.set dir other);
@@ -109,3 +111,8 @@ stands_nowhere_from number (first ∷ others) from is = by (first.number == numb
 
 pub stands_nowhere : (number : ℕ) (ports : List PortAt) → position_from (Found number) 0 ports ≡ None → StandsNowhere number ports
 stands_nowhere number ports is = stands_nowhere_from number ports 0 is
+
+-- what follows where an answer is yes
+pub on_true : {P Q : Type 0} (b : Bool) → OnTrue b P → (P → Q) → OnTrue b Q
+on_true true is follows = follows is
+on_true false is follows = tt

@@ -4,6 +4,7 @@ mod Composing
 mod Parts
 mod Directions
 mod Sound
+mod Processes
 pub mod Runs
 pub mod Follows
 pub mod Statements

@@ -9,10 +9,19 @@ use Rattle.tis_asm.specs.declared.instr.Instr.TheVariants as instr
 use Rattle.tis_asm.specs.declared.instr.Instr.TheVariants.{Swp}
 use Rattle.net_tree.specs.declared.tree.Var.{Var}
 use Rattle.net_tree.specs.declared.tree.Var.TheVariants.{X, Y}
-use Rattle.net_select.specs.Selection.{Code, Placed, on, as_program, with_code, jump_to, if_code, leaving_code, entering_code, with_one_less, count_code}
+use Rattle.net_select.specs.Selection.{Code, Placed, on, as_program, with_code, jump_to, if_code, leaving_code, entering_code, entering_frame, count_frame, with_one_less, count_code}
 use Rattle.net_select.specs.Emission.{entering_head}
 use Rattle.net_select.proofs.Lengths.{HasLines}
 use Rattle.net_select.proofs.Composing.{Program, longer, two}
+
+-- how long the head of a loop is whose jump enters it, and what a `count` has besides its block
+pub head_length : (total : ℕ) (var : Var) (jump : JumpKind) (lines at : ℕ) → length (entering_head total var jump lines at) + 1 ≡ entering_frame var
+head_length total X jump lines at = refl
+head_length total Y jump lines at = refl
+
+pub count_is : (var : Var) → count_frame var ≡ entering_frame var + length (on var (instr.Nop ∷ []))
+count_is X = refl
+count_is Y = refl
 
 -- a head, a body where it ends, and a tail
 pub around : (p0 p1 p2 p3 : Program) (head : Code) (body : Placed) (tail : Code) → p1 ≡ p0 ++ as_program head → p2 ≡ with_code p1 body → p3 ≡ p2 ++ as_program tail → p3 ≡ p0 ++ as_program (head ++ (body (length p0 + length head) ++ tail))

@@ -5,8 +5,8 @@ use Rattle.net_tree.specs.Tree.{Block, Empty}
 use Rattle.net_rules.specs.declared.accepted.Checked.{Checked}
 use Rattle.net_rules.specs.CheckedNet.{net_of}
 use Rattle.net_rules.specs.Numbers.{numbered}
-use Rattle.net_select.specs.declared.select.SelectError.{SelectError}
-use Rattle.net_select.specs.declared.select.SelectError.TheVariants.{TooLong}
+use Rattle.net_select.specs.declared.selection.SelectError.{SelectError}
+use Rattle.net_select.specs.declared.selection.SelectError.TheVariants.{TooLong}
 use Rattle.net_select.specs.Selection.{Ports, code_of, program_of}
 
 -- the body of a process of a network that was checked

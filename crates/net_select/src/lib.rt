@@ -18,9 +18,9 @@
 mod laws;
 mod lines;
 mod ports;
-mod select;
+mod selection;
 mod selector;
 
 pub use laws::{code_behaves, lines_are_told};
 pub use ports::Ports;
-pub use select::{SelectError, lines_of, select};
+pub use selection::{SelectError, lines_of, select};

@@ -1,5 +1,5 @@
 //! The directions in which the links of a process lie.
-ghost use Rattle.std.specs.Prelude.{◌≡◌, ◌<◌, ◌+◌, ◌⊎◌, ◌↔◌, ◌==◌, ℕ, [], length, IsTrue, IsSome, Some, if◌then◌else◌};
+ghost use Rattle.std.specs.Prelude.{◌≡◌, ◌<◌, ◌+◌, ◌⊎◌, ◌↔◌, ◌==◌, ℕ, [], ◌∷◌, ◌++◌, length, slice_set, IsTrue, IsSome, IfSome, Some, if◌then◌else◌};
 ghost use Rattle.std.specs.Bool.{OnTrue, OnFalse};
 ghost use Rattle.std.specs.List.{position_from};
 ghost use Rattle.net_select.specs.HeldPorts.{port_of, ports_of, one_if_new};
@@ -54,7 +54,8 @@ impl Ports {
 
     // Where a number stands, if it has a direction.
     fn place_of(&self, number: u32) -> Option<usize>
-        ensures { result ≡ position_from (λ port. port.number == number) 0 self.now }
+        ensures place { result ≡ position_from (λ port. port.number == number) 0 self.now }
+        ensures few { IfSome result (λ place. place < 8) }
     {
         'ports: for index in 0..self.ports.len() {
             if self.ports[index].number == number {
@@ -62,6 +63,24 @@ impl Ports {
             }
         }
         None
+    }
+
+    // One in place of another.
+    fn replace(&mut self, place: usize, port: PortAt)
+        requires within { place < length self.old }
+        requires few { place < 8 }
+        ensures { self.new ≡ slice_set self.old place port }
+    {
+        self.ports[place] = port;
+    }
+
+    // One more, where fewer than eight are there.
+    fn add(&mut self, port: PortAt) -> bool
+        ensures room { IsTrue result ↔ (length self.old < 8) }
+        ensures added { OnTrue result (self.new ≡ self.old ++ port ∷ []) }
+        ensures unchanged { OnFalse result (self.new ≡ self.old) }
+    {
+        self.ports.try_push(port).is_ok()
     }
 
     /// Gives a number this direction, in place of the one that it had. False, and nothing changes, exactly where
@@ -75,10 +94,10 @@ impl Ports {
         let port = PortAt { number, dir };
         match self.place_of(number) {
             Some(place) => {
-                self.ports[place] = port;
+                self.replace(place, port);
                 true
             }
-            None => self.ports.try_push(port).is_ok(),
+            None => self.add(port),
         }
     }
 
@@ -86,9 +105,11 @@ impl Ports {
     pub(crate) fn dir(&self, number: u32) -> Dir
         ensures { result ≡ ports_of self.now number }
     {
-        match self.place_of(number) {
-            Some(place) => self.ports[place].dir,
-            None => Dir::Up,
+        'ports: for port in self.ports.as_slice() {
+            if port.number == number {
+                return port.dir;
+            }
         }
+        Dir::Up
     }
 }

@@ -84,8 +84,8 @@ impl Selector<'_> {
 
     // A jump to a place; the place behind the last instruction is the first one.
     fn jump_to(self, jump: Jump, place: u64) -> Instr
-        requires within { place ≤ self.entry.total }
-        requires short { self.entry.total ≤ 15 }
+        requires within { place ≤ self.total }
+        requires short { self.total ≤ 15 }
         ensures { result ≡ jump_at self.entry.total jump place }
     {
         if place == self.total {
@@ -96,8 +96,8 @@ impl Selector<'_> {
 
     // What stands before the body of a loop whose jump enters it.
     fn enter(self, program: &mut Program, var: Var, jump: Jump, lines: u64)
-        requires room { length program.old + (entering_frame var + lines) ≤ self.entry.total }
-        requires short { self.entry.total ≤ 15 }
+        requires room { length program.old + (entering_frame var + lines) ≤ self.total }
+        requires short { self.total ≤ 15 }
         ensures { program.new ≡ program.old ++ as_program (entering_head self.entry.total var jump lines (length program.old)) }
     {
         let top = u64::from(program.len());
@@ -118,8 +118,8 @@ impl Selector<'_> {
     // An `if` on x: the block that is jumped to stands behind the other one.
     #[cycle(selecting)]
     fn branch_on_x(self, program: &mut Program, jump: Jump, straight: &Block, jumped: &Block)
-        requires room { length program.old + (if_frame X (block_has (numbered_block jumped.now)) + (block_has (numbered_block straight.now) + block_has (numbered_block jumped.now))) ≤ self.entry.total }
-        requires short { self.entry.total ≤ 15 }
+        requires room { length program.old + (if_frame X (block_has (numbered_block jumped.now)) + (block_has (numbered_block straight.now) + block_has (numbered_block jumped.now))) ≤ self.total }
+        requires short { self.total ≤ 15 }
         ensures { program.new ≡ with_code program.old (if_code self.entry.total X jump (block_has (numbered_block straight.now)) (block_has (numbered_block jumped.now)) (block_code (ports_of self.entry.ports.now) self.entry.total (numbered_block straight.now)) (block_code (ports_of self.entry.ports.now) self.entry.total (numbered_block jumped.now))) }
     {
         let at = u64::from(program.len());
@@ -142,8 +142,8 @@ impl Selector<'_> {
     // An `if` on y: a SWP stands before the jump and before each of the blocks.
     #[cycle(selecting)]
     fn branch_on_y(self, program: &mut Program, jump: Jump, straight: &Block, jumped: &Block)
-        requires room { length program.old + (if_frame Y (block_has (numbered_block jumped.now)) + (block_has (numbered_block straight.now) + block_has (numbered_block jumped.now))) ≤ self.entry.total }
-        requires short { self.entry.total ≤ 15 }
+        requires room { length program.old + (if_frame Y (block_has (numbered_block jumped.now)) + (block_has (numbered_block straight.now) + block_has (numbered_block jumped.now))) ≤ self.total }
+        requires short { self.total ≤ 15 }
         ensures { program.new ≡ with_code program.old (if_code self.entry.total Y jump (block_has (numbered_block straight.now)) (block_has (numbered_block jumped.now)) (block_code (ports_of self.entry.ports.now) self.entry.total (numbered_block straight.now)) (block_code (ports_of self.entry.ports.now) self.entry.total (numbered_block jumped.now))) }
     {
         let at = u64::from(program.len());
@@ -160,8 +160,8 @@ impl Selector<'_> {
     // An `if`, by which of its blocks is reached without the jump.
     #[cycle(selecting)]
     fn branch(self, program: &mut Program, var: Var, jump: Jump, straight: &Block, jumped: &Block)
-        requires room { length program.old + (if_frame var (block_has (numbered_block jumped.now)) + (block_has (numbered_block straight.now) + block_has (numbered_block jumped.now))) ≤ self.entry.total }
-        requires short { self.entry.total ≤ 15 }
+        requires room { length program.old + (if_frame var (block_has (numbered_block jumped.now)) + (block_has (numbered_block straight.now) + block_has (numbered_block jumped.now))) ≤ self.total }
+        requires short { self.total ≤ 15 }
         ensures { program.new ≡ with_code program.old (if_code self.entry.total var jump (block_has (numbered_block straight.now)) (block_has (numbered_block jumped.now)) (block_code (ports_of self.entry.ports.now) self.entry.total (numbered_block straight.now)) (block_code (ports_of self.entry.ports.now) self.entry.total (numbered_block jumped.now))) }
     {
         match var {
@@ -173,8 +173,8 @@ impl Selector<'_> {
     // A loop whose jump leaves it.
     #[cycle(selecting)]
     fn leaving_loop(self, program: &mut Program, var: Var, jump: Jump, body: &Block)
-        requires room { length program.old + (leaving_frame var + block_has (numbered_block body.now)) ≤ self.entry.total }
-        requires short { self.entry.total ≤ 15 }
+        requires room { length program.old + (leaving_frame var + block_has (numbered_block body.now)) ≤ self.total }
+        requires short { self.total ≤ 15 }
         ensures { program.new ≡ with_code program.old (leaving_code self.entry.total var jump (block_has (numbered_block body.now)) (block_code (ports_of self.entry.ports.now) self.entry.total (numbered_block body.now))) }
     {
         let top = u64::from(program.len());
@@ -197,8 +197,8 @@ impl Selector<'_> {
     // A loop whose jump enters it.
     #[cycle(selecting)]
     fn entering_loop(self, program: &mut Program, var: Var, jump: Jump, body: &Block)
-        requires room { length program.old + (entering_frame var + block_has (numbered_block body.now)) ≤ self.entry.total }
-        requires short { self.entry.total ≤ 15 }
+        requires room { length program.old + (entering_frame var + block_has (numbered_block body.now)) ≤ self.total }
+        requires short { self.total ≤ 15 }
         ensures { program.new ≡ with_code program.old (entering_code self.entry.total var jump (block_has (numbered_block body.now)) (block_code (ports_of self.entry.ports.now) self.entry.total (numbered_block body.now))) }
     {
         let top = u64::from(program.len());
@@ -210,8 +210,8 @@ impl Selector<'_> {
     // A loop that counts a variable down: such a loop while it is positive, with 1 less at the end of each turn.
     #[cycle(selecting)]
     fn counted_loop(self, program: &mut Program, var: Var, body: &Block)
-        requires room { length program.old + (count_frame var + block_has (numbered_block body.now)) ≤ self.entry.total }
-        requires short { self.entry.total ≤ 15 }
+        requires room { length program.old + (count_frame var + block_has (numbered_block body.now)) ≤ self.total }
+        requires short { self.total ≤ 15 }
         ensures { program.new ≡ with_code program.old (count_code self.entry.total var (block_has (numbered_block body.now)) (block_code (ports_of self.entry.ports.now) self.entry.total (numbered_block body.now))) }
     {
         let top = u64::from(program.len());
@@ -225,8 +225,8 @@ impl Selector<'_> {
     // The code of a statement.
     #[cycle(selecting)]
     fn statement(self, program: &mut Program, statement: &Statement)
-        requires room { length program.old + statement_lines (numbered_statement statement.now) ≤ self.entry.total }
-        requires short { self.entry.total ≤ 15 }
+        requires room { length program.old + statement_lines (numbered_statement statement.now) ≤ self.total }
+        requires short { self.total ≤ 15 }
         ensures { program.new ≡ with_code program.old (statement_code (ports_of self.entry.ports.now) self.entry.total (numbered_statement statement.now)) }
     {
         match statement {
@@ -291,8 +291,8 @@ impl Selector<'_> {
     /// The code of a block: that of its statements one behind the other.
     #[cycle(selecting)]
     pub(crate) fn block(self, program: &mut Program, block: &Block)
-        requires room { length program.old + block_has (numbered_block block.now) ≤ self.entry.total }
-        requires short { self.entry.total ≤ 15 }
+        requires room { length program.old + block_has (numbered_block block.now) ≤ self.total }
+        requires short { self.total ≤ 15 }
         ensures { program.new ≡ with_code program.old (block_code (ports_of self.entry.ports.now) self.entry.total (numbered_block block.now)) }
     {
         'statements: for index in 0..block.len() {
