@@ -5,10 +5,7 @@ use Rattle.std.proofs.lemmas.List.{append-nil, append_assoc, map-append, drop_al
 use Rattle.net_tree.specs.Tree.{Name, Statement, Block, Empty, Then, statements_of}
 use Rattle.net_rules.specs.declared.statements.Use as held
 use Rattle.net_rules.specs.Found.{Use, use_view, use_of, uses_in, uses_inside}
-
-no_statement : {X : Type 0} (f : ℕ × Statement Name → X) (index : ℕ) (x : X) → option_map f (slice_get [] index) ≡ Some x → ⊥
-no_statement f zero x is = absurd cc
-no_statement f (suc index) x is = absurd cc
+use Rattle.net_rules.proofs.Walks.{no_statement}
 
 module _ (process : ℕ) (in_x in_y : Bool) where
   -- the uses in these statements

@@ -7,6 +7,7 @@ use Rattle.net_tree.specs.Tree.{Name, Statement, Get, GetAdd, GetSub, Put, PutNu
 use Rattle.net_rules.specs.Rules.{LoopWithoutRead, Placed, placed_in, placed_inside, by_line, loops_without_read, loop_fault}
 use Rattle.net_rules.specs.Loops.{lesser, own_loop, block_loop, inner_loop, IsFirstLoop}
 use Rattle.net_rules.proofs.LineOrder.{first_line, least_line, first_is_least}
+use Rattle.net_rules.proofs.Walks.{no_statement}
 
 lesser_none : (a : Option ℕ) → lesser a None ≡ a
 lesser_none None = refl
@@ -81,10 +82,6 @@ loops_from (s ∷ others) = lesser (own_loop s.0 s.1) (lesser (inner_loop s.1) (
 pub loops_of : (block : Block Name) → block_loop block ≡ loops_from (statements_of block)
 loops_of Empty = refl
 loops_of (Then line statement rest) = ap (λ (o : Option ℕ). lesser (own_loop line statement) (lesser (inner_loop statement) o)) (loops_of rest)
-
-no_statement : {X : Type 0} (f : ℕ × Statement Name → X) (index : ℕ) (x : X) → option_map f (slice_get [] index) ≡ Some x → ⊥
-no_statement f zero x is = absurd cc
-no_statement f (suc index) x is = absurd cc
 
 next_loop : (statements : List (ℕ × Statement Name)) (index line : ℕ) (statement : Statement Name) → option_map (λ s. s.1) (slice_get statements index) ≡ Some statement → option_map (λ s. s.0) (slice_get statements index) ≡ Some line → loops_from (drop index statements) ≡ lesser (own_loop line statement) (lesser (inner_loop statement) (loops_from (drop (index + 1) statements)))
 next_loop [] index line statement is line_is = absurd (no_statement (λ (s : ℕ × Statement Name). s.1) index statement is)

@@ -1,4 +1,5 @@
-mod Walks
+pub mod Walks
+pub mod Counting
 mod LineOrder
 mod FirstLoop
 pub mod Costs

@@ -10,14 +10,11 @@ use Rattle.net_numbered.specs.declared.tree.NumberedBlock as held_block
 use Rattle.net_numbered.specs.View.{numbered_block}
 use Rattle.net_rules.specs.Numbers.{block_with, statement_with}
 use Rattle.net_rules.specs.Sure.{HasValues, StatementHasValues}
+use Rattle.net_rules.proofs.Walks.{no_statement}
 
 pub whole_block : (block : Block Name) → block_of (statements_of block) ≡ block
 whole_block Empty = refl
 whole_block (Then line statement rest) = ap (Then line statement) (whole_block rest)
-
-no_statement : {X : Type 0} (f : ℕ × Statement Name → X) (index : ℕ) (x : X) → option_map f (slice_get [] index) ≡ Some x → ⊥
-no_statement f zero x is = absurd cc
-no_statement f (suc index) x is = absurd cc
 
 pub next_statement : (statements : List (ℕ × Statement Name)) (index line : ℕ) (statement : Statement Name) → option_map (λ s. s.1) (slice_get statements index) ≡ Some statement → option_map (λ s. s.0) (slice_get statements index) ≡ Some line →
     block_of (drop index statements) ≡ Then line statement (block_of (drop (index + 1) statements))

@@ -1,6 +1,7 @@
 -- A walk through the statements of a block.
 use Rattle.std.proofs.Common.{◌≡◌, ◌<◌, ◌≤◌, ◌⊎◌, inl, inr, ℕ, zero, suc, ◌+◌, Bool, true, false, List, [], ◌∷◌, drop, refl, sym, ap, subst, ◌∙◌, arith}
-use Rattle.std.specs.Prelude.{Some, slice_get, option_map, ◌||◌}
+use Rattle.std.specs.Prelude.{Some, slice_get, option_map, sum_by, ◌||◌}
+use Rattle.std.proofs.lemmas.List.Sums.{sum_by-cons}
 use Rattle.net_tree.specs.declared.tree.Statement.TheVariants as held_as
 use Rattle.net_tree.specs.declared.tree.Statement.TheFolds as folds
 use Rattle.net_tree.specs.declared.tree.Statement.TheOpen as level
@@ -16,25 +17,35 @@ use Rattle.net_rules.specs.Uses.{reads_itself, reads_either_way, surely_reads}
 pub if_seen : (var : Var) (test : Test) (first second : held_block.Block) → statement_view (held_as.If var test first second) ≡ If var test (block_view first) (block_view second)
 if_seen var test first second = ap statement_view (sym (held_as.rolls-If var test first second)) ∙ folds.fold-roll-Statement (Statement Name) (Block Name) Numbered statement_level block_level numbered_level (level.If var test first second)
 
--- a statement of a block is smaller than the block
-pub smaller : (block : Block Name) (index : ℕ) (statement : Statement Name) → option_map (λ s. s.1) (slice_get (statements_of block) index) ≡ Some statement → statement_size statement < block_size block
-smaller Empty index statement is = absurd (nothing index is)
-  where
-    nothing : (index : ℕ) → option_map (λ (s : ℕ × Statement Name). s.1) (slice_get [] index) ≡ Some statement → ⊥
-    nothing zero is = absurd cc
-    nothing (suc index) is = absurd cc
-smaller (Then line first rest) zero statement is =
-    let same : first ≡ statement = some first statement is in
-    let positive = block_positive rest in
-    subst (λ (s : Statement Name). statement_size s < statement_size first + block_size rest) same (omega (arith, positive))
-  where
-    some : (x y : Statement Name) → Some x ≡ Some y → x ≡ y
-    some x y e = cc
+-- no statement stands in a block without any
+pub no_statement : {N X : Type 0} (f : ℕ × Statement N → X) (index : ℕ) (x : X) → option_map f (slice_get [] index) ≡ Some x → ⊥
+no_statement f zero x is = absurd cc
+no_statement f (suc index) x is = absurd cc
 
-    block_positive : (block : Block Name) → 1 ≤ block_size block
-    block_positive Empty = omega arith
-    block_positive (Then line statement rest) = let more = block_positive rest in omega (arith, more)
+same_statement : {N : Type 0} (x y : Statement N) → Some x ≡ Some y → x ≡ y
+same_statement x y e = cc
+
+block_positive : {N : Type 0} (block : Block N) → 1 ≤ block_size block
+block_positive Empty = omega arith
+block_positive (Then line statement rest) = let more = block_positive rest in omega (arith, more)
+
+-- a statement of a block is smaller than the block
+pub smaller : {N : Type 0} (block : Block N) (index : ℕ) (statement : Statement N) → option_map (λ s. s.1) (slice_get (statements_of block) index) ≡ Some statement → statement_size statement < block_size block
+smaller {N = N} Empty index statement is = absurd (no_statement (λ (s : ℕ × Statement N). s.1) index statement is)
+smaller {N = N} (Then line first rest) zero statement is =
+    let positive = block_positive rest in
+    subst (λ (s : Statement N). statement_size s < statement_size first + block_size rest) (same_statement first statement is) (omega (arith, positive))
 smaller (Then line first rest) (suc index) statement is = let more = smaller rest index statement is in omega (arith, more)
+
+-- what is summed over the statements of a block, the next of them first
+pub next_sum : {N : Type 0} (f : Statement N → ℕ) (statements : List (ℕ × Statement N)) (index : ℕ) (statement : Statement N) → option_map (λ s. s.1) (slice_get statements index) ≡ Some statement →
+    sum_by (λ s. f s.1) (drop index statements) ≡ f statement + sum_by (λ s. f s.1) (drop (index + 1) statements)
+next_sum {N = N} f [] index statement is = absurd (no_statement (λ (s : ℕ × Statement N). s.1) index statement is)
+next_sum {N = N} f (s ∷ statements) zero statement is =
+    sum_by-cons (λ (x : ℕ × Statement N). f x.1) s statements ∙ ap (λ (st : Statement N). f st + sum_by (λ (x : ℕ × Statement N). f x.1) statements) (same_statement s.1 statement is)
+next_sum {N = N} f (s ∷ statements) (suc index) statement is =
+    let more : suc (index + 1) ≡ suc index + 1 = omega arith in
+    next_sum f statements index statement is ∙ ap (λ (n : ℕ). f statement + sum_by (λ (x : ℕ × Statement N). f x.1) (drop n (s ∷ statements))) more
 
 -- whether one of these statements reads, or an `if` among them does either way
 abbrev pub any_reads : List (ℕ × Statement Name) → Bool

@@ -11,11 +11,13 @@ use Rattle.net_rules.specs.Numbers.{number_of, numbered}
 use Rattle.net_rules.specs.Rules.{IsAccepted, first_broken}
 use Rattle.net_rules.specs.Tables.{value_of}
 use Rattle.net_rules.specs.Known.{HasFewNames}
+use Rattle.net_rules.specs.Sizes.{statement_count}
 
--- fewer than 2^31 names of inputs, channels and outputs, and fewer than 2^31 processes
+-- fewer than 2^31 names of inputs, channels and outputs, fewer than 2^31 processes, and fewer than 2^31 statements
 pub record IsSmallNet (net : Net) : Type 0 where
   pub names : HasFewNames net
   pub processes : length net.processes < 2 ^ 31
+  pub statements : statement_count net < 2 ^ 31
 
 -- the network that was checked
 abbrev pub net_of : held.Checked → Net

@@ -14,12 +14,13 @@ use crate::lines::check_lines;
 use crate::names::NameTable;
 use crate::numbered::number_processes;
 use crate::numbers::{Numbers, number_names};
+use crate::sizes::statement_count;
 use crate::turns::sure_reads;
 use net_numbered::NumberedBlock;
 use net_tree::{Name, Net};
 use std::alloc::Global;
 
-// More names or processes than this a network that is checked doesn't have.
+// So many names, processes or statements a network that is checked doesn't have.
 const MOST: usize = 0x8000_0000;
 
 /// A network that keeps each rule, with the numbers of its names.
@@ -44,7 +45,7 @@ fn check_rules(alloc: Global, net: &Net, numbers: Numbers) -> Result<(), RuleErr
     check_joins(alloc, numbers, processes)
 }
 
-/// Whether a network has few enough names and processes to be checked: fewer than 2^31 of each.
+/// Whether a network is small enough to be checked: it has fewer than 2^31 names, processes and statements each.
 pub fn is_small(net: &Net) -> bool
     ensures { IsTrue result ↔ IsSmallNet (net_view net.now) }
 {
@@ -54,7 +55,8 @@ pub fn is_small(net: &Net) -> bool
         .saturating_add(net.channels.len())
         .saturating_add(net.outputs.len());
     let processes = net.processes.len();
-    names < MOST && processes < MOST
+    let statements = statement_count(net.processes.as_slice());
+    names < MOST && processes < MOST && statements < MOST
 }
 
 /// The network with the numbers of its names, where it keeps each rule; else the first rule that it breaks.

@@ -49,6 +49,7 @@ mod loops;
 mod names;
 mod numbered;
 mod numbers;
+mod sizes;
 mod statements;
 mod sure;
 mod turns;

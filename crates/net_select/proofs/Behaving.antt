@@ -196,13 +196,14 @@ module _ (program : List MarkedInstr) (body : Block ℕ) (ports : Ports) (distin
     abbrev node : Node
     node = after_steps program fresh steps
 
-    waits_for : (dir : Dir) → IsTrue (wants program node dir) → (other : ℕ) × (ports other ≡ dir) × (process.outcome ≡ WaitsOn other) × ((written : ℕ) → IsTrue (writes body written) → given_to (ports written) steps ≡ process.state.sent written)
+    waits_for : (dir : Dir) → IsTrue (wants program node dir) → (other : ℕ) × (ports other ≡ dir) × IsTrue (reads body other) × (process.outcome ≡ WaitsOn other) × ((written : ℕ) → IsTrue (writes body written) → given_to (ports written) steps ≡ process.state.sent written)
     waits_for dir wanted = by agreement.rest refl agreement.more fronts.1
       where
-        by : (rest : List Act) → agreement.rest ≡ rest → Run program ports node rest ran.end → AreNamed (names_of body) rest → (other : ℕ) × (ports other ≡ dir) × (process.outcome ≡ WaitsOn other) × ((written : ℕ) → IsTrue (writes body written) → given_to (ports written) steps ≡ process.state.sent written)
+        by : (rest : List Act) → agreement.rest ≡ rest → Run program ports node rest ran.end → AreNamed (names_of body) rest → (other : ℕ) × (ports other ≡ dir) × IsTrue (reads body other) × (process.outcome ≡ WaitsOn other) × ((written : ℕ) → IsTrue (writes body written) → given_to (ports written) steps ≡ process.state.sent written)
         by [] is here named = (
           name,
           same_dir (ports name) dir (sym (awaits_wants program node (ports name) dir (subst (λ (n : Node). Awaits program n (ports name)) (sym here) ran.awaits)) ∙ wanted),
+          ran.read,
           waits,
           λ written written_is. sym (sent_is written written_is ∙ ap (λ (l : List Act). given_to (ports written) steps ++ sent_under written l) is ∙ append-nil (given_to (ports written) steps)),
         )

@@ -10,7 +10,7 @@ use Rattle.net_tree.specs.declared.tree.Var.{Var}
 use Rattle.net_tree.specs.declared.tree.Var.TheVariants.{X, Y}
 use Rattle.net_tree.specs.declared.tree.Test.{Test}
 use Rattle.net_tree.specs.Tree.{Statement, Get, GetAdd, GetSub, Put, PutNumber, Move, Set, Add, Sub, Neg, Double, Copy, Swap, If, While, Count, Block, Empty, Then}
-use Rattle.net_select.specs.Selection.{Ports, Placed, on, jump_of, jumps_where_held, if_frame, while_frame, count_frame, statement_lines, block_lines, jump_to, if_code, leaving_code, entering_code, with_one_less, count_code, statement_code, block_code}
+use Rattle.net_select.specs.Selection.{Ports, Placed, on, jump_of, jumps_where_held, if_frame, leaving_frame, entering_frame, while_frame, count_frame, statement_lines, block_lines, jump_to, if_code, leaving_code, entering_code, with_one_less, count_code, statement_code, block_code}
 use Rattle.net_select.specs.Laws.{LinesAreTold}
 
 -- one instruction on a variable, whatever it is
@@ -19,7 +19,7 @@ one_on X i = refl
 one_on Y i = refl
 
 -- code of so many instructions, wherever it stands
-abbrev HasLines : Placed → ℕ → Type 0
+abbrev pub HasLines : Placed → ℕ → Type 0
 HasLines code lines = (at : ℕ) → length (code at) ≡ lines
 
 -- on x, by whether the block that is jumped to has code
@@ -35,17 +35,9 @@ if_lines total X jump f_lines g_lines f g f_has g_has at = if_on_x (g_lines == 0
 if_lines total Y jump f_lines g_lines f g f_has g_has at =
     omega (arith, f_has (at + 3), g_has (at + 5 + f_lines), length-append (f (at + 3)) (jump_to total Always (at + 5 + f_lines + g_lines) ∷ instr.Swp ∷ g (at + 5 + f_lines)))
 
-abbrev leaving_frame : Var → ℕ
-leaving_frame X = 2
-leaving_frame Y = 5
-
 leaving_lines : (total : ℕ) (var : Var) (jump : JumpKind) (lines : ℕ) (body : Placed) → HasLines body lines → (at : ℕ) → length (leaving_code total var jump lines body at) ≡ leaving_frame var + lines
 leaving_lines total X jump lines body has at = omega (arith, has (at + 1), length-append (body (at + 1)) (jump_to total Always at ∷ []))
 leaving_lines total Y jump lines body has at = omega (arith, has (at + 3), length-append (body (at + 3)) (jump_to total Always at ∷ instr.Swp ∷ []))
-
-abbrev entering_frame : Var → ℕ
-entering_frame X = 3
-entering_frame Y = 6
 
 entering_lines : (total : ℕ) (var : Var) (jump : JumpKind) (lines : ℕ) (body : Placed) → HasLines body lines → (at : ℕ) → length (entering_code total var jump lines body at) ≡ entering_frame var + lines
 entering_lines total X jump lines body has at = omega (arith, has (at + 2), length-append (body (at + 2)) (jump_to total Always at ∷ []))
@@ -55,10 +47,6 @@ while_by : (enters : Bool) (total : ℕ) (var : Var) (jump : JumpKind) (lines : 
     length (cond enters (entering_code total var jump lines body at) (leaving_code total var jump lines body at)) ≡ cond enters (entering_frame var) (leaving_frame var) + lines
 while_by true total var jump lines body has at = entering_lines total var jump lines body has at
 while_by false total var jump lines body has at = leaving_lines total var jump lines body has at
-
-frames : (var : Var) (test : Test) → cond (jumps_where_held test) (entering_frame var) (leaving_frame var) ≡ while_frame var test
-frames X test = refl
-frames Y test = refl
 
 pub one_less_lines : (var : Var) (body : Placed) (lines : ℕ) → HasLines body lines → HasLines (with_one_less var body) (lines + length (on var (instr.Nop ∷ [])))
 one_less_lines var body lines has at =
@@ -93,7 +81,7 @@ module _ (ports : Ports) (total : ℕ) where
     statement_has (If var test first second) at =
         if_by (jumps_where_held test) total var (jump_of test) (block_lines first) (block_lines second) (block_code ports total first) (block_code ports total second) (block_has first) (block_has second) at
     statement_has (While var test body) at =
-        while_by (jumps_where_held test) total var (jump_of test) (block_lines body) (block_code ports total body) (block_has body) at ∙ ap (λ n. n + block_lines body) (frames var test)
+        while_by (jumps_where_held test) total var (jump_of test) (block_lines body) (block_code ports total body) (block_has body) at
     statement_has (Count var body) at = count_lines total var (block_lines body) (block_code ports total body) (block_has body) at
 
     pub block_has : (block : Block ℕ) (at : ℕ) → length (block_code ports total block at) ≡ block_lines block

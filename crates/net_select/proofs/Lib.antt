@@ -1,4 +1,10 @@
 pub mod Lengths
+mod Counting
+mod Composing
+mod Parts
+mod Directions
+mod Sound
+mod Processes
 pub mod Runs
 pub mod Follows
 pub mod Statements

@@ -34,9 +34,9 @@ pub record BehavesAfter (program : List MarkedInstr) (body : Block ℕ) (ports :
   pub gives : (dir : Dir) → ((name : ℕ) → IsTrue (writes body name) → ports name ≢ dir) → given_to dir steps ≡ []
   -- what it gave under a name, the process sent, in this order
   pub prefix : (name : ℕ) → IsTrue (writes body name) → IsPrefixOf (given_to (ports name) steps) (process.state.sent name)
-  -- where it wants a value, the process waits for one under a name whose port this is, and all that it sent was given
+  -- where it wants a value, the process waits for one under a name that it reads and whose port this is, and all that it sent was given
   pub waits : (dir : Dir) → IsTrue (wants program node dir) →
-      (name : ℕ) × (ports name ≡ dir) × (process.outcome ≡ WaitsOn name) × ((written : ℕ) → IsTrue (writes body written) → given_to (ports written) steps ≡ process.state.sent written)
+      (name : ℕ) × (ports name ≡ dir) × IsTrue (reads body name) × (process.outcome ≡ WaitsOn name) × ((written : ℕ) → IsTrue (writes body written) → given_to (ports written) steps ≡ process.state.sent written)
   -- what it offers is what the process sent next under the name whose port this is
   pub next : (dir : Dir) (value : ℤ) → offers node dir ≡ Some value →
       (name : ℕ) × (ports name ≡ dir) × IsTrue (writes body name) × IsPrefixOf (given_to dir steps ++ value ∷ []) (process.state.sent name)

@@ -71,10 +71,17 @@ straight test first second = if jumps_where_held test then second else first
 abbrev pub jumped : {T : Type 0} → Test → T → T → T
 jumped test first second = if jumps_where_held test then first else second
 
--- how many instructions a loop has besides those of its body
+-- how many instructions a loop has besides those of its body: where its jump leaves it, and where its jump enters it
+abbrev pub leaving_frame : Var → ℕ
+leaving_frame X = 2
+leaving_frame Y = 5
+
+abbrev pub entering_frame : Var → ℕ
+entering_frame X = 3
+entering_frame Y = 6
+
 abbrev pub while_frame : Var → Test → ℕ
-while_frame X test = if jumps_where_held test then 3 else 2
-while_frame Y test = if jumps_where_held test then 6 else 5
+while_frame var test = if jumps_where_held test then entering_frame var else leaving_frame var
 
 abbrev pub count_frame : Var → ℕ
 count_frame X = 4
@@ -174,6 +181,17 @@ abbrev mutual
 abbrev pub code_of : Ports → Block ℕ → Code
 code_of ports body = block_code ports (block_lines body) body 0
 
--- the same as a program, without marks
+-- code as a program, without marks
+abbrev pub unmarked : Instr → MarkedInstr
+unmarked instruction = record { instr = instruction; mark = false }
+
+abbrev pub as_program : Code → List MarkedInstr
+as_program code = map unmarked code
+
+-- the code of a process as a program
 abbrev pub program_of : Ports → Block ℕ → List MarkedInstr
-program_of ports body = map (λ instruction. record { instr = instruction; mark = false }) (code_of ports body)
+program_of ports body = as_program (code_of ports body)
+
+-- a program, and behind it the code that begins there
+abbrev pub with_code : List MarkedInstr → Placed → List MarkedInstr
+with_code program code = program ++ as_program (code (length program))

@@ -16,5 +16,11 @@
 #![tactic(auto)]
 
 mod laws;
+mod lines;
+mod ports;
+mod selection;
+mod selector;
 
 pub use laws::{code_behaves, lines_are_told};
+pub use ports::Ports;
+pub use selection::{SelectError, lines_of, select};
