@@ -1,0 +1,12 @@
+use Rattle.std.proofs.Common.{refl, ap, sym, ◌∙◌}
+use Rattle.std.specs.Prelude.{◌-ℤ◌}
+use Rattle.tis_base.specs.Saturation.{sat}
+use Rattle.net_rules.specs.Process.{value_in, exec_statement}
+use Rattle.net_tree.specs.Tree.{Sub}
+use Rattle.net_kahn.proofs.Leaves.{value_seen, sets}
+use Rattle.net_kahn.proofs.simple.sub.Goals as goal
+
+pub returns : goal.returns
+returns c =
+    sets (exec_statement (Sub c.args.var c.args.number)) c.args.machine.now c.set.new.self c.args.var c.sub-difference.result (λ state. sat (value_in c.args.var state -ℤ c.args.number)) c.requires.ready.links c.set.ensures
+    (λ steps fuel. ap (λ v. sat (v -ℤ c.args.number)) (value_seen c.args.var c.args.machine.now steps fuel ∙ sym c.value.ensures) ∙ sym c.sub-difference.ensures) (λ state. refl)
