@@ -1,16 +1,16 @@
 -- A node that runs in any way, over what a process reads, does what the process does up to somewhere.
-use Rattle.std.proofs.Common.{◌≡◌, ◌≢◌, ℕ, ◌+◌, ℤ, Bool, true, false, cond, List, [], ◌∷◌, ◌++◌, Option, Some, None, map, refl, sym, ap, subst, ◌∙◌, true≢false, eqb-true, eq-eqb}
-use Rattle.std.specs.Prelude.{IsTrue, ◌==◌}
+use Rattle.std.proofs.Common.{◌≡◌, ◌≢◌, ℕ, ℤ, Bool, true, false, cond, List, [], ◌∷◌, ◌++◌, Option, Some, None, map, refl, sym, ap, subst, ◌∙◌, true≢false, eqb-true, eq-eqb}
+use Rattle.std.specs.Prelude.{◌==◌}
 use Rattle.tis_base.specs.declared.tiles.Dir.{Dir}
 use Rattle.tis_base.specs.declared.tiles.Dir.TheVariants.{Left, Right, Up, Down}
 use Rattle.tis_asm.specs.declared.instr.Source.{Source}
 use Rattle.tis_asm.specs.declared.instr.Instr.{Instr}
 use Rattle.tis_asm.specs.declared.program.MarkedInstr.{MarkedInstr}
 use Rattle.tis_asm.specs.Node.{Node, Mode, Ready, Writing, One, is_same_dir, Supply, AtHand, AtPort, AtAny, supply_of, source_of, is_at_hand, is_local_with, can_local, can_local_in, comes_through, reads_with, wants, wants_in, offers, offers_in}
-use Rattle.tis_asm.specs.PortRuns.{Step, Local, Took, Gave, IsPortRun, IsStep, after_step, after_steps, taken_by, taken_from}
+use Rattle.tis_asm.specs.PortRuns.{Step, Local, Took, Gave, IsPortRun, IsStep, after_step, after_steps, taken_from}
 use Rattle.net_select.specs.Selection.{Ports}
 use Rattle.net_select.proofs.Runs.{Act, Alone, Reads, Sends, step_of, Awaits, CanMake, Run, is_same_dir_self}
-use Rattle.net_select.proofs.Follows.{read_by, read_under, Names, AreNamed}
+use Rattle.net_select.proofs.Follows.{read_under, Names, AreNamed}
 
 -- ---- directions
 

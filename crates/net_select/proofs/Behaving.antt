@@ -1,6 +1,6 @@
 -- The code of a process behaves as the process.
-use Rattle.std.proofs.Common.{◌≡◌, ◌≢◌, ℕ, zero, suc, ◌+◌, ◌*◌, ◌<◌, ◌≤◌, ℤ, pos, Bool, true, false, cond, List, [], ◌∷◌, ◌++◌, Option, Some, None, length, map, refl, sym, ap, subst, ◌∙◌, arith, append_assoc, append-nil, true≢false, eqb-true, eq-eqb}
-use Rattle.std.specs.Prelude.{IsTrue, All, Contains, slice_get, option_map, ◌==◌, ◌||◌, if◌then◌else◌}
+use Rattle.std.proofs.Common.{◌≡◌, ◌≢◌, ℕ, ◌+◌, ◌<◌, ◌≤◌, ℤ, pos, Bool, true, false, cond, List, [], ◌∷◌, ◌++◌, Option, Some, None, length, map, refl, sym, ap, subst, ◌∙◌, arith, append_assoc, append-nil, true≢false, eqb-true, eq-eqb}
+use Rattle.std.specs.Prelude.{IsTrue, All, slice_get, option_map, ◌==◌, ◌||◌}
 use Rattle.std.specs.List.{list_any}
 use Rattle.std.proofs.lemmas.List.{length-map, length-append}
 use Rattle.std.proofs.lemmas.List.Elements.{All-append, All-cons, All-nil}
@@ -10,16 +10,16 @@ use Rattle.tis_base.specs.Prefix.{IsPrefixOf}
 use Rattle.tis_base.specs.declared.tiles.Dir.{Dir}
 use Rattle.tis_asm.specs.declared.instr.Instr.{Instr}
 use Rattle.tis_asm.specs.declared.program.MarkedInstr.{MarkedInstr}
-use Rattle.tis_asm.specs.Node.{Node, fresh, Ready, is_same_dir, instr_at, can_local, wants, offers}
+use Rattle.tis_asm.specs.Node.{Node, fresh, is_same_dir, wants, offers}
 use Rattle.tis_asm.specs.PortRuns.{Step, Local, Took, Gave, IsPortRun, IsStep, after_step, after_steps, taken_by, taken_from, given_to, local_count}
-use Rattle.net_tree.specs.Tree.{Block, Net}
+use Rattle.net_tree.specs.Tree.{Block}
 use Rattle.net_rules.specs.Uses.{reads_in, writes_in}
-use Rattle.net_rules.specs.Process.{Streams, ProcessState, Outcome, WaitsOn, OutOfFuel, Execution, beginning, rounds, process_run}
+use Rattle.net_rules.specs.Process.{Streams, Outcome, WaitsOn, OutOfFuel, Execution, beginning, process_run}
 use Rattle.net_select.specs.Selection.{Ports, Code, block_lines, block_code, code_of, program_of}
 use Rattle.net_select.specs.Behaves.{reads, writes, AreDistinct, taken_under, BehavesAfter, Behaves}
 use Rattle.net_select.proofs.Lengths.{lines_are_told}
-use Rattle.net_select.proofs.Runs.{Act, Alone, Reads, Sends, step_of, Awaits, CanMake, Run, pc_of, ready_at, node_at, HoldsAt, moved, is_same_dir_self}
-use Rattle.net_select.proofs.Follows.{alone_by, alone_count, alone_both, read_by, read_under, read_both, sent_under, sent_both, Names, AreNamed, RanToWait, FollowsTo}
+use Rattle.net_select.proofs.Runs.{Act, Alone, Reads, Sends, step_of, Awaits, Run, ready_at, node_at, HoldsAt, moved, is_same_dir_self}
+use Rattle.net_select.proofs.Follows.{alone_count, alone_both, read_under, read_both, sent_under, sent_both, Names, AreNamed, RanToWait, FollowsTo}
 use Rattle.net_select.proofs.Trees.{EachIs, rounds_do}
 use Rattle.net_select.proofs.Agreement.{same_dir, other_dir, gave_value, local_wants, local_offers, awaits_wants, awaits_offers, writing_wants, writing_offers, Agrees, agrees}
 

@@ -1,19 +1,16 @@
 -- The code of an `if` and of a loop follows them, where that of their blocks does.
-use Rattle.std.proofs.Common.{◌≡◌, ℕ, zero, suc, ◌+◌, ◌*◌, ◌≤◌, ℤ, pos, negsuc, Bool, true, false, cond, List, [], ◌∷◌, ◌++◌, Some, length, refl, sym, ap, subst, ◌∙◌, arith, append-nil, eqb-true}
-use Rattle.std.specs.Prelude.{◌==◌, not, nat_lt}
+use Rattle.std.proofs.Common.{◌≡◌, ℕ, zero, suc, ◌+◌, ◌≤◌, ℤ, pos, negsuc, Bool, true, false, cond, List, [], ◌∷◌, ◌++◌, Some, length, refl, sym, ap, subst, ◌∙◌, arith, append-nil}
+use Rattle.std.specs.Prelude.{◌==◌, not}
 use Rattle.tis_asm.specs.declared.instr.Jump.{Jump as JumpKind}
-use Rattle.tis_asm.specs.declared.instr.Jump.TheVariants.{Always, IfZero, IfNotZero, IfPositive, IfNegative}
 use Rattle.tis_asm.specs.declared.instr.Instr.TheVariants as instr
 use Rattle.tis_asm.specs.declared.program.MarkedInstr.{MarkedInstr}
 use Rattle.tis_asm.specs.Node.{Node, instr_at, jumps}
-use Rattle.net_tree.specs.declared.tree.Var.{Var}
-use Rattle.net_tree.specs.declared.tree.Var.TheVariants.{X, Y}
 use Rattle.net_tree.specs.declared.tree.Test.{Test}
 use Rattle.net_tree.specs.declared.tree.Test.TheVariants.{Zero, NotZero, Negative, Positive, NotPositive, NotNegative}
-use Rattle.net_rules.specs.Process.{ProcessState, Outcome, Finished, WaitsOn, OutOfFuel, Execution, ended, and_then, stepped, begins, value_in, passes, is_positive, is_zero, is_negative, loop_within, loop}
-use Rattle.net_select.specs.Selection.{Ports, Code, Placed, jump_of, jumps_where_held, jump_to, if_code, if_frame, leaving_code, entering_code}
-use Rattle.net_select.proofs.Runs.{Act, Alone, Run, run_then, node_at, HoldsAt, moved, holds_both, jump_made, jump_passed}
-use Rattle.net_select.proofs.Follows.{alone_count, alone_both, read_under, read_both, sent_under, sent_both, Names, AreNamed, named_both, Ran, ran_then, RanToWait, FollowsTo, Follows, before, then, begun}
+use Rattle.net_rules.specs.Process.{ProcessState, Outcome, Finished, WaitsOn, OutOfFuel, Execution, ended, and_then, stepped, passes}
+use Rattle.net_select.specs.Selection.{Ports, jump_of, jumps_where_held, jump_to}
+use Rattle.net_select.proofs.Runs.{Act, Alone, Run, run_then, node_at, jump_made, jump_passed}
+use Rattle.net_select.proofs.Follows.{alone_count, alone_both, read_under, read_both, sent_under, sent_both, Names, AreNamed, named_both, FollowsTo, Follows}
 use Rattle.net_select.proofs.Statements.{at_place, swapped}
 
 -- ---- tests

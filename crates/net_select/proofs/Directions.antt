@@ -1,5 +1,5 @@
 -- The direction of a number, found in a list.
-use Rattle.std.proofs.Common.{◌≡◌, ℕ, zero, suc, ◌+◌, ◌<◌, ◌≤◌, Bool, true, false, cond, List, [], ◌∷◌, ◌++◌, length, drop, get_or, refl, sym, ap, subst, ◌∙◌, arith, true≢false, eqb-true, eq-eqb}
+use Rattle.std.proofs.Common.{◌≡◌, ℕ, suc, ◌+◌, ◌<◌, Bool, true, false, cond, List, [], ◌∷◌, ◌++◌, length, get_or, refl, sym, ap, subst, ◌∙◌, arith, true≢false, eqb-true, eq-eqb}
 use Rattle.std.specs.Prelude.{Option, Some, None, slice_set, ◌==◌}
 use Rattle.std.specs.Bool.{OnTrue}
 use Rattle.std.specs.List.{position_from}

@@ -1,5 +1,5 @@
 -- The code of a statement has as many instructions as its lines tell.
-use Rattle.std.proofs.Common.{◌≡◌, ℕ, ◌+◌, true, false, cond, Bool, pos, [], ◌∷◌, ◌++◌, length, refl, ap, ◌∙◌, arith, length-append, eqb-true}
+use Rattle.std.proofs.Common.{◌≡◌, ℕ, ◌+◌, true, false, cond, Bool, pos, [], ◌∷◌, ◌++◌, length, refl, arith, length-append, eqb-true}
 use Rattle.std.specs.Prelude.{◌==◌}
 use Rattle.tis_asm.specs.declared.instr.Instr.{Instr}
 use Rattle.tis_asm.specs.declared.instr.Jump.{Jump as JumpKind}
@@ -8,9 +8,8 @@ use Rattle.tis_asm.specs.declared.instr.Instr.TheVariants as instr
 use Rattle.tis_asm.specs.declared.instr.Source.TheVariants as from
 use Rattle.net_tree.specs.declared.tree.Var.{Var}
 use Rattle.net_tree.specs.declared.tree.Var.TheVariants.{X, Y}
-use Rattle.net_tree.specs.declared.tree.Test.{Test}
 use Rattle.net_tree.specs.Tree.{Statement, Get, GetAdd, GetSub, Put, PutNumber, Move, Set, Add, Sub, Neg, Double, Copy, Swap, If, While, Count, Block, Empty, Then}
-use Rattle.net_select.specs.Selection.{Ports, Placed, on, jump_of, jumps_where_held, if_frame, leaving_frame, entering_frame, while_frame, count_frame, statement_lines, block_lines, jump_to, if_code, leaving_code, entering_code, with_one_less, count_code, statement_code, block_code}
+use Rattle.net_select.specs.Selection.{Ports, Placed, on, jump_of, jumps_where_held, if_frame, leaving_frame, entering_frame, count_frame, statement_lines, block_lines, jump_to, if_code, leaving_code, entering_code, with_one_less, count_code, statement_code, block_code}
 use Rattle.net_select.specs.Laws.{LinesAreTold}
 
 -- one instruction on a variable, whatever it is

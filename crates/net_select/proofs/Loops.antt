@@ -1,5 +1,5 @@
 -- The code of an `if` and of a loop follows them, where that of their blocks does.
-use Rattle.std.proofs.Common.{◌≡◌, ℕ, zero, suc, ◌+◌, ◌≤◌, ℤ, Bool, true, false, cond, List, [], ◌∷◌, ◌++◌, Some, length, refl, sym, ap, subst, ◌∙◌, arith, eqb-true}
+use Rattle.std.proofs.Common.{◌≡◌, ℕ, zero, suc, ◌+◌, ℤ, Bool, true, false, cond, List, [], ◌∷◌, ◌++◌, Some, length, refl, ap, subst, ◌∙◌, arith, eqb-true}
 use Rattle.std.specs.Prelude.{◌==◌, not}
 use Rattle.tis_asm.specs.declared.instr.Jump.{Jump as JumpKind}
 use Rattle.tis_asm.specs.declared.instr.Jump.TheVariants.{Always}
@@ -8,12 +8,11 @@ use Rattle.tis_asm.specs.declared.program.MarkedInstr.{MarkedInstr}
 use Rattle.tis_asm.specs.Node.{Node, instr_at, jumps}
 use Rattle.net_tree.specs.declared.tree.Var.{Var}
 use Rattle.net_tree.specs.declared.tree.Var.TheVariants.{X, Y}
-use Rattle.net_rules.specs.Process.{ProcessState, Finished, Execution, ended, and_then, stepped, begins, value_in, loop_within, loop}
-use Rattle.net_select.specs.Selection.{Ports, Code, Placed, jump_to, if_code, if_frame, leaving_code, entering_code}
-use Rattle.net_select.proofs.Runs.{Run, node_at, HoldsAt, moved, holds_both}
+use Rattle.net_rules.specs.Process.{ProcessState, Finished, Execution, ended, and_then, stepped, loop_within}
+use Rattle.net_select.specs.Selection.{Ports, Code, Placed, jump_to, if_code, leaving_code, entering_code}
+use Rattle.net_select.proofs.Runs.{node_at, HoldsAt, moved, holds_both}
 use Rattle.net_select.proofs.Follows.{Names, Follows, then, begun}
-use Rattle.net_select.proofs.Statements.{swapped}
-use Rattle.net_select.proofs.Branches.{Goes, goes_then, goes_to, goes_past, goes_at, goes_only, between, past_y, over_y}
+use Rattle.net_select.proofs.Branches.{Goes, goes_then, goes_to, goes_past, goes_at, between, past_y, over_y}
 
 -- the value of a variable
 abbrev pub value_of : Var → ℤ → ℤ → ℤ

@@ -1,7 +1,6 @@
 -- What a node does, instruction by instruction, with the names of what it reads and sends.
-use Rattle.std.proofs.Common.{◌≡◌, ◌≢◌, ℕ, ◌+◌, ◌<◌, ℤ, Bool, true, false, cond, List, [], ◌∷◌, ◌++◌, Option, Some, None, length, refl, sym, ap, subst, ◌∙◌, arith, eqb-true, eq-eqb}
+use Rattle.std.proofs.Common.{◌≡◌, ℕ, ◌+◌, ◌<◌, ℤ, Bool, true, false, cond, List, [], ◌∷◌, ◌++◌, Option, Some, None, length, refl, sym, ap, subst, ◌∙◌, arith, eqb-true}
 use Rattle.std.specs.Prelude.{IsTrue, slice_get, option_map, nat_lt, ◌==◌}
-use Rattle.std.proofs.lemmas.Bool.{cases_Bool}
 use Rattle.std.proofs.lemmas.Bool.Decides.{nat_tests}
 use Rattle.std.proofs.lemmas.Option.{slice_get_within}
 use Rattle.tis_base.specs.declared.tiles.Dir.{Dir}
@@ -13,7 +12,7 @@ use Rattle.tis_asm.specs.declared.instr.Jump.{Jump as JumpKind}
 use Rattle.tis_asm.specs.declared.instr.Instr.{Instr}
 use Rattle.tis_asm.specs.declared.instr.Instr.TheVariants as instr
 use Rattle.tis_asm.specs.declared.program.MarkedInstr.{MarkedInstr}
-use Rattle.tis_asm.specs.Node.{Node, Ready, Writing, One, is_same_dir, instr_at, goes_on, next_of, AtHand, supply_of, source_of, is_local_with, does_by, does_with, jumps, can_local, wants, offers, writes}
+use Rattle.tis_asm.specs.Node.{Node, Ready, Writing, One, is_same_dir, instr_at, goes_on, next_of, AtHand, supply_of, source_of, is_local_with, does_by, does_with, jumps, can_local, writes}
 use Rattle.tis_asm.specs.PortRuns.{Step, Local, Took, Gave, after_step}
 use Rattle.net_select.specs.Selection.{Ports, Code}
 

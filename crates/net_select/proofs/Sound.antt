@@ -1,5 +1,5 @@
 -- Each jump of the code of a process goes to one of its instructions.
-use Rattle.std.proofs.Common.{◌≡◌, ℕ, ◌+◌, ◌<◌, ◌≤◌, Bool, true, false, cond, pos, [], ◌∷◌, ◌++◌, length, refl, sym, ap, subst, ◌∙◌, arith}
+use Rattle.std.proofs.Common.{◌≡◌, ℕ, ◌+◌, ◌<◌, ◌≤◌, Bool, true, false, cond, pos, [], ◌∷◌, ◌++◌, length, refl, sym, subst, ◌∙◌, arith}
 use Rattle.std.specs.Prelude.{◌==◌}
 use Rattle.std.proofs.lemmas.Bool.{eqb-false}
 use Rattle.std.proofs.lemmas.List.{length-map}
@@ -12,7 +12,7 @@ use Rattle.tis_asm.specs.Programs.{IsSound, JumpsWithin, JumpWithin}
 use Rattle.net_tree.specs.declared.tree.Var.{Var}
 use Rattle.net_tree.specs.declared.tree.Var.TheVariants.{X, Y}
 use Rattle.net_tree.specs.Tree.{Statement, Get, GetAdd, GetSub, Put, PutNumber, Move, Set, Add, Sub, Neg, Double, Copy, Swap, If, While, Count, Block, Empty, Then}
-use Rattle.net_select.specs.Selection.{Ports, Code, Placed, unmarked, as_program, on, copy_code, jump_of, jumps_where_held, if_frame, leaving_frame, entering_frame, while_frame, count_frame, jump_to, if_code, leaving_code, entering_code, with_one_less, count_code, statement_lines, block_lines, statement_code, block_code, code_of, program_of}
+use Rattle.net_select.specs.Selection.{Ports, Code, Placed, unmarked, as_program, on, copy_code, jump_of, jumps_where_held, if_frame, leaving_frame, entering_frame, count_frame, jump_to, if_code, leaving_code, entering_code, with_one_less, count_code, statement_lines, block_lines, statement_code, block_code, code_of, program_of}
 use Rattle.net_select.proofs.Lengths.{lines_are_told}
 
 module _ (total : ℕ) where

@@ -1,19 +1,18 @@
 -- The code of a statement without blocks follows the statement.
-use Rattle.std.proofs.Common.{◌≡◌, ℕ, ◌+◌, ◌*◌, ◌≤◌, ℤ, pos, Bool, true, false, cond, List, [], ◌∷◌, ◌++◌, Some, length, refl, sym, ap, subst, ◌∙◌, arith, append-nil, eqb-true}
-use Rattle.std.specs.Prelude.{◌==◌, ◌+ℤ◌, ◌-ℤ◌, neg_ℤ}
-use Rattle.tis_base.specs.Saturation.{sat}
+use Rattle.std.proofs.Common.{◌≡◌, ℕ, ◌+◌, ◌*◌, ◌≤◌, ℤ, Bool, true, false, cond, List, [], ◌∷◌, ◌++◌, Some, length, refl, sym, ap, subst, ◌∙◌, arith, append-nil, eqb-true}
+use Rattle.std.specs.Prelude.{◌==◌}
 use Rattle.tis_asm.specs.declared.instr.Source.TheVariants as from
 use Rattle.tis_asm.specs.declared.instr.Dest.TheVariants as to
 use Rattle.tis_asm.specs.declared.instr.Instr.{Instr}
 use Rattle.tis_asm.specs.declared.instr.Instr.TheVariants as instr
 use Rattle.tis_asm.specs.declared.program.MarkedInstr.{MarkedInstr}
-use Rattle.tis_asm.specs.Node.{Node, instr_at, source_of, does_with, goes_on}
+use Rattle.tis_asm.specs.Node.{Node, instr_at, source_of}
 use Rattle.net_tree.specs.declared.tree.Var.{Var}
 use Rattle.net_tree.specs.declared.tree.Var.TheVariants.{X, Y}
-use Rattle.net_rules.specs.Process.{Streams, with_stream, ProcessState, Execution, Finished, WaitsOn, ended, stepped, begins, read_first, read_from, send, value_in, with_value, becomes, does, reads}
-use Rattle.net_select.specs.Selection.{Ports, Code, on, copy_code}
-use Rattle.net_select.proofs.Runs.{Act, Alone, Reads, Sends, Run, run_then, node_at, ready_at, pc_of, HoldsAt, alone, takes, sends, moves, Awaits, awaits_at}
-use Rattle.net_select.proofs.Follows.{alone_count, read_under, sent_under, Names, AreNamed, Ran, RanToWait, Follows, begun}
+use Rattle.net_rules.specs.Process.{Streams, with_stream, ProcessState, Execution, Finished, ended, stepped, begins, read_first, read_from, send, value_in, with_value, does, reads}
+use Rattle.net_select.specs.Selection.{Ports, on, copy_code}
+use Rattle.net_select.proofs.Runs.{Act, Alone, Reads, Sends, Run, run_then, node_at, HoldsAt, alone, takes, sends, moves, Awaits, awaits_at}
+use Rattle.net_select.proofs.Follows.{alone_count, read_under, sent_under, Names, AreNamed, Follows, begun}
 
 -- one value is read under a name, and the others stay
 read_one : (other name : ℕ) (value : ℤ) (left : List ℤ) (unread : Streams) → unread name ≡ value ∷ left → unread other ≡ (cond (other == name) (value ∷ []) [] ++ []) ++ with_stream unread name left other

@@ -1,6 +1,6 @@
 -- The code of a process follows it: by recursion on its statements, and then round after round.
-use Rattle.std.proofs.Common.{◌≡◌, ℕ, zero, suc, ◌+◌, ◌*◌, ◌≤◌, ℤ, pos, negsuc, Bool, true, false, cond, List, [], ◌∷◌, ◌++◌, Some, length, map, refl, sym, ap, subst, ◌∙◌, arith, append-nil, append_assoc, length-append, true≢false, eq-eqb}
-use Rattle.std.specs.Prelude.{◌==◌, not, slice_get, option_map, ◌+ℤ◌, ◌-ℤ◌, neg_ℤ}
+use Rattle.std.proofs.Common.{◌≡◌, ℕ, zero, suc, ◌+◌, ◌≤◌, ℤ, pos, negsuc, Bool, true, false, cond, List, [], ◌∷◌, ◌++◌, length, refl, sym, ap, subst, ◌∙◌, arith, append-nil, true≢false, eq-eqb}
+use Rattle.std.specs.Prelude.{◌==◌, not, ◌+ℤ◌, ◌-ℤ◌, neg_ℤ}
 use Rattle.tis_base.specs.Saturation.{sat}
 use Rattle.tis_asm.specs.declared.instr.Source.TheVariants as from
 use Rattle.tis_asm.specs.declared.instr.Dest.TheVariants as to
@@ -8,17 +8,17 @@ use Rattle.tis_asm.specs.declared.instr.Jump.{Jump as JumpKind}
 use Rattle.tis_asm.specs.declared.instr.Jump.TheVariants.{IfPositive}
 use Rattle.tis_asm.specs.declared.instr.Instr.TheVariants as instr
 use Rattle.tis_asm.specs.declared.program.MarkedInstr.{MarkedInstr}
-use Rattle.tis_asm.specs.Node.{Node, instr_at, jumps}
+use Rattle.tis_asm.specs.Node.{Node, jumps}
 use Rattle.net_tree.specs.declared.tree.Var.{Var}
 use Rattle.net_tree.specs.declared.tree.Var.TheVariants.{X, Y}
 use Rattle.net_tree.specs.declared.tree.Test.{Test}
 use Rattle.net_tree.specs.Tree.{Statement, Get, GetAdd, GetSub, Put, PutNumber, Move, Set, Add, Sub, Neg, Double, Copy, Swap, If, While, Count, Block, Empty, Then}
 use Rattle.net_rules.specs.Uses.{read_of, written_of, as_list, reads_in, reads_inside, writes_in, writes_inside}
-use Rattle.net_rules.specs.Process.{ProcessState, Finished, Execution, ended, and_then, stepped, begins, value_in, becomes, passes, is_positive, loop, exec, exec_statement, round, rounds_within}
-use Rattle.net_select.specs.Selection.{Ports, Code, Placed, on, jump_of, jumps_where_held, if_code, if_frame, leaving_code, entering_code, with_one_less, count_frame, while_frame, statement_lines, block_lines, statement_code, block_code}
+use Rattle.net_rules.specs.Process.{ProcessState, Finished, Execution, ended, and_then, stepped, value_in, becomes, passes, is_positive, loop, exec, exec_statement, round, rounds_within}
+use Rattle.net_select.specs.Selection.{Ports, Placed, on, jump_of, jumps_where_held, if_code, if_frame, leaving_code, entering_code, with_one_less, count_frame, while_frame, statement_lines, block_lines, statement_code, block_code}
 use Rattle.net_select.proofs.Lengths.{one_less_lines, statement_has, block_has}
-use Rattle.net_select.proofs.Runs.{Alone, Run, node_at, pc_of, ready_at, HoldsAt, moved, holds_both, alone, takes}
-use Rattle.net_select.proofs.Follows.{Names, Ran, Follows, then, begun}
+use Rattle.net_select.proofs.Runs.{Alone, node_at, pc_of, ready_at, HoldsAt, alone, takes}
+use Rattle.net_select.proofs.Follows.{Names, Follows, then, begun}
 use Rattle.net_select.proofs.Statements.{at_place, on_y, on_local, on_take, on_put, put_number, move, copy, swap}
 use Rattle.net_select.proofs.Branches.{jumps_when, Goes, goes_then, goes_only, around, between}
 use Rattle.net_select.proofs.Loops.{Translates, HasLines, behind, if_x, if_y, loops, value_of, GoesRound, leaves_x, leaves_y, enters_x, enters_y}

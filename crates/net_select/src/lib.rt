@@ -2,17 +2,38 @@
 //!
 //! # What it is for
 //!
-//! `specs/Selection.antt` gives each process its code, by recursion on its statements, for any ports of its names, and
-//! `specs/Behaves.antt` says what it means that the program of a node behaves as a process, whatever its neighbours do.
+//! A node has two registers, ACC and BAK, and a process two variables, x and y. [`select`] gives a process of a checked
+//! network its code as a program, with [`Ports`] that say in which direction each of its names lies, and [`lines_of`]
+//! how many instructions that is. `docs/selection.md` has the tables.
 //!
 //! # What the layers above use
 //!
-//! [`lines_are_told`]: the code of a process has as many instructions as its lines tell.
+//! The code is exactly that of `specs/Selection.antt`, by recursion on the statements, and each of its jumps goes to one
+//! of its instructions. It behaves as the process (`specs/Behaves.antt`), for any directions that are distinct on each
+//! side: whatever the neighbours of its node do, the node reads, sends and waits as the process does over the values
+//! that it took, and by itself it takes at most eight steps for one of the process. [`code_behaves`] is the law, for
+//! code of any length, and [`lines_are_told`] says that the lines are those of the code.
+//!
+//! # An example
+//!
+//! ```text
+//! let mut ports = Ports::new();
+//! ports.set(0, Dir::Up);                           // the first input lies above
+//! ports.set(1, Dir::Down);
+//! match select(&checked, 0, &ports) {
+//!     Ok(program) => ..,                           // MOV UP, ACC ...
+//!     Err(SelectError::TooLong { lines }) => ..,   // lines_of(&checked, 0), more than fifteen
+//! }
+//! ```
+//!
+//! # What the calls cost
+//!
+//! None takes memory. The lines of a block are counted once for each block around it, and its code is put behind the
+//! program instruction after instruction.
 //!
 //! # What it doesn't do
 //!
-//! It selects nothing yet: what stands are the definitions, with worked examples in `proofs/Examples.antt`, and this law. That
-//! the code of a process behaves as the process isn't shown here yet.
+//! It shortens no code, and knows nothing of grids.
 #![tactic(auto)]
 
 mod laws;

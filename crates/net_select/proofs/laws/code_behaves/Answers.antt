@@ -1,4 +1,4 @@
-use Rattle.std.proofs.Common.{ℕ, ◌+◌, arith}
+use Rattle.std.proofs.Common.{◌+◌, arith}
 use Rattle.net_rules.specs.Numbers.{numbered}
 use Rattle.net_rules.specs.Kahn.{step_limit}
 use Rattle.net_select.proofs.Behaving.{process_behaves}

@@ -1,4 +1,4 @@
-use Rattle.std.proofs.Common.{◌≡◌, ◌<◌, ◌≤◌, ◌+◌, ℕ, List, [], length, get_or, ap, sym, subst, ◌∙◌, arith}
+use Rattle.std.proofs.Common.{◌≡◌, ℕ, List, length, get_or, ap, sym, subst, ◌∙◌, arith}
 use Rattle.std.specs.Prelude.{Contains}
 use Rattle.tis_asm.specs.declared.program.MarkedInstr.{MarkedInstr}
 use Rattle.tis_asm.specs.Programs.{IsSound}
@@ -7,7 +7,7 @@ use Rattle.net_numbered.specs.View.{numbered_block}
 use Rattle.net_rules.specs.CheckedNet.{net_of}
 use Rattle.net_rules.specs.Numbers.{numbered}
 use Rattle.net_select.specs.HeldPorts.{ports_of}
-use Rattle.net_select.specs.Selection.{as_program, with_code, block_code, block_lines, program_of}
+use Rattle.net_select.specs.Selection.{as_program, with_code, block_code, block_lines}
 use Rattle.net_select.specs.Behaves.{Behaves}
 use Rattle.net_select.specs.Selects.{body_of}
 use Rattle.net_select.proofs.Lengths.{lines_are_told}

@@ -1,4 +1,4 @@
-use Rattle.std.proofs.Common.{◌≡◌, ◌<◌, ◌⊎◌, ℕ, ◌+◌, ◌++◌, ◌∷◌, [], List, Bool, cond, length, inl, inr, refl, sym, ap, subst, ◌∙◌, arith, true≢false}
+use Rattle.std.proofs.Common.{◌≡◌, ℕ, ◌∷◌, [], List, length, inl, inr, refl, sym, ap, subst, ◌∙◌, arith, true≢false}
 use Rattle.std.specs.Prelude.{IsSome, None}
 use Rattle.std.proofs.lemmas.List.{length-set, length-append}
 use Rattle.tis_base.specs.declared.tiles.Dir.{Dir}

@@ -1,11 +1,11 @@
-use Rattle.std.proofs.Common.{◌≡◌, ◌<◌, ◌≤◌, ◌+◌, ◌*◌, ◌++◌, ℕ, ℤ, [], ◌∷◌, length, subst, ap, sym, refl, ◌∙◌, arith}
+use Rattle.std.proofs.Common.{◌≡◌, ◌<◌, ◌≤◌, ◌+◌, ◌*◌, ◌++◌, ℕ, ℤ, [], ◌∷◌, length, subst, ap, ◌∙◌, arith}
 use Rattle.tis_asm.specs.declared.instr.Jump.TheVariants.{Always, IfPositive}
 use Rattle.tis_asm.specs.declared.instr.Source.TheVariants as from
 use Rattle.tis_asm.specs.declared.instr.Instr.TheVariants as instr
 use Rattle.tis_asm.specs.declared.instr.Instr.TheVariants.{Swp}
 use Rattle.net_tree.specs.Tree.{statements_of}
 use Rattle.net_numbered.specs.View.{numbered_block, numbered_statement}
-use Rattle.net_rules.specs.Sizes.{block_size, statement_size, held_count}
+use Rattle.net_rules.specs.Sizes.{block_size, statement_size}
 use Rattle.net_rules.proofs.Walks.{smaller}
 use Rattle.net_select.specs.HeldPorts.{ports_of}
 use Rattle.net_select.specs.Selection.{on, leaving_frame, jump_to, as_program, block_code, block_lines}
@@ -13,7 +13,7 @@ use Rattle.net_select.specs.Emission.{entering_head}
 use Rattle.net_select.proofs.Lengths.{one_on, block_has}
 use Rattle.net_select.proofs.Counting.{reached_some}
 use Rattle.net_select.proofs.Composing.{longer, grown, walk_starts, walk_room, walk_on, walk_ends}
-use Rattle.net_select.proofs.Parts.{head_length, count_is, skips, chooses_x, chooses_y, leaves_x, leaves_y, enters, counts}
+use Rattle.net_select.proofs.Parts.{head_length, count_is, chooses_x, chooses_y, counts}
 use Rattle.net_select.proofs.selector.Selector.+selecting.Goals as goal
 
 pub branch_on_x-emit-requires-3 : goal.branch_on_x-emit-requires-3
