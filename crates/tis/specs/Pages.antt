@@ -7,6 +7,7 @@ use Rattle.tis.specs.declared.pages.Pages.{Pages}
 abbrev pub page_behind : Pages → List ℕ → Option (List ℕ)
 page_behind pages word =
     if bytes_eq word (codes "compile") then Some pages.compile.now
+    else if bytes_eq word (codes "net") then Some pages.net.now
     else if bytes_eq word (codes "grade") then Some pages.grade.now
     else if bytes_eq word (codes "run") then Some pages.run.now
     else if bytes_eq word (codes "order") then Some pages.order.now

@@ -13,6 +13,7 @@ pub struct Pages {
     pub all: &'static str,
     pub version: &'static str,
     pub compile: &'static str,
+    pub net: &'static str,
     pub grade: &'static str,
     pub run: &'static str,
     pub order: &'static str,
@@ -26,6 +27,8 @@ fn page_behind(pages: &Pages, word: &str) -> Option<&'static str>
 {
     if word == "compile" {
         Some(pages.compile)
+    } else if word == "net" {
+        Some(pages.net)
     } else if word == "grade" {
         Some(pages.grade)
     } else if word == "run" {

@@ -6,6 +6,7 @@ pub const PAGES: Pages = Pages {
     all: ALL,
     version: "tis 0.1.0\n",
     compile: COMPILE,
+    net: NET,
     grade: GRADE,
     run: RUN,
     order: ORDER,
@@ -16,6 +17,8 @@ pub const PAGES: Pages = Pages {
 const ALL: &str = "\
 tis: compiles networks of processes to programs for the TIS-100, and runs, grades and debugs saves
 
+to see what a network computes
+  tis net NET GRID                         prints the stream of each output
 to make a save
   tis compile NET SAVE                     compiles a network to a save
 to see whether a save is right
@@ -62,6 +65,43 @@ status
   5  a file can't be read, as one of more than 16 MiB, or SAVE can't be written
        $ tis compile column.net .
        store fault
+  7  memory ran out, with the line: no memory
+";
+
+const NET: &str = "\
+tis net NET GRID
+
+Says what the network in the file NET computes: the Kahn stream of each of its outputs over the
+inputs of the grid text in the file GRID, whatever order its processes run in. An input of the
+network at whose position GRID has none is empty, and nothing else of GRID counts. NET is read first,
+then GRID, and then the rules of networks are looked for; the first that is broken is named.
+
+reads   NET, GRID
+writes  a line for each output to standard output, where the status is 0
+
+status
+  0  the streams, by ascending position
+       $ tis net networks/filter.net networks/filter.grid
+       out 1 5 7 1
+  2  the words are no command
+       $ tis net networks/filter.net
+       not a command
+  3  NET is no network, GRID is no grid text, or NET breaks a rule
+       $ tis net networks/no_end.net networks/filter.grid
+       refused Net Unclosed 6
+       $ tis net networks/filter.net networks/filter.net
+       refused Grid BadLine 2
+       $ tis net networks/unread_input.net networks/filter.grid
+       refused Rule Unread 5
+  4  a file isn't there
+       $ tis net no_such_file networks/filter.grid
+       missing
+  5  a file can't be read: a folder, no permission, more than 16 MiB
+       $ tis net . networks/filter.grid
+       store fault
+  6  standard output failed
+       $ tis net networks/filter.net networks/filter.grid >/dev/full
+       sink fault
   7  memory ran out, with the line: no memory
 ";
 

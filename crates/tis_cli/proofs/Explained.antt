@@ -5,7 +5,7 @@ use Rattle.tis_base.specs.Outside.{Texts, text_at, with_text}
 use Rattle.tis_cli.specs.declared.status.Refusal.TheVariants.{NotThisForm}
 use Rattle.net_column.specs.declared.tree.NetError.{NetError}
 use Rattle.net_column.specs.declared.tree.NetError.TheVariants as unread
-use Rattle.tis_cli.specs.Statuses.{net_status}
+use Rattle.tis_cli.specs.Statuses.{form_status}
 use Rattle.tis_cli.specs.Answers.{Refuses, Makes, AllDone}
 use Rattle.tis_cli.specs.Commands.{Compile, IsCompiled}
 use Rattle.net_column.specs.Net.{Net}
@@ -64,7 +64,7 @@ module _ (told : Option Texts) (name save text seen : List ℕ) (fetched : IfSom
 
   -- a text that was fetched and isn't read as a network
   pub unread_explained : (new : Option Texts) → new ≡ told → (written : Option (List ℕ)) (error : NetError) → (error ≡ unread.NotThisForm → (net : Net) → NetOf seen net → ⊥) →
-      Explains (Compile name save) told written (net_status error) (record { texts = new; written = written })
+      Explains (Compile name save) told written (form_status error) (record { texts = new; written = written })
   unread_explained new stayed written unread.NotThisForm none = refusal_explained (none refl) new stayed written
   unread_explained new stayed written unread.NoMemory none = tt
 

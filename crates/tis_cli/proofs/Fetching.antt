@@ -6,7 +6,8 @@ use Rattle.tis_cli.specs.declared.status.Status.{Status}
 use Rattle.tis_cli.specs.declared.status.Status.TheVariants.{Done, NotPassed, Words, Refused, Missing, StoreFault, SinkFault, NoMemory, Limit}
 use Rattle.tis_cli.specs.declared.runs.Run.{Run}
 use Rattle.tis_cli.specs.Answers.{Answer, Refuses, Makes}
-use Rattle.tis_cli.specs.Commands.{Command, Run as ByClock, Order, Replay, Grade, fetched, ComesTo, Debug}
+use Rattle.tis_cli.specs.Commands.{Command, Network, Run as ByClock, Order, Replay, Grade, fetched, ComesTo, Debug}
+use Rattle.tis_cli.specs.Nets.{net_answer}
 use Rattle.tis_cli.specs.Runs.{run_answer, order_answer, replay_answer, grade_answer, debug_answer}
 use Rattle.tis_cli.specs.Ends.{Ends}
 use Rattle.tis_cli.specs.Outcomes.{texts_under, with_first, AreFetched, Runs}
@@ -39,6 +40,13 @@ clock_runs told second save spec saved read saved_seen read_seen seed cycles res
     comes_to_run (ByClock save spec seed cycles) told (saved ∷ read ∷ []) (run_answer saved_seen read_seen cycles) result
     (λ texts is. one_more texts save saved (spec ∷ []) (read ∷ []) (told_under told told save saved refl first texts is) (one_more texts spec read [] [] (told_under told second spec read stay next texts is) refl))
     (λ other same. same ∙ ap (λ (b : List ℕ). run_answer b read_seen cycles) saved_is ∙ ap (λ (b : List ℕ). run_answer saved b cycles) read_is)
+    ends
+
+pub net_runs : (told second : Option Texts) (net grid read given : List ℕ) (read_seen given_seen : List ℕ) (result : Result Run Status) → second ≡ told → IfSome told (λ texts. text_at texts net ≡ Some read) → IfSome second (λ texts. text_at texts grid ≡ Some given) → read_seen ≡ read → given_seen ≡ given → Ends result (net_answer read_seen given_seen) → Runs (Network net grid) told result
+net_runs told second net grid read given read_seen given_seen result stay first next read_is given_is ends =
+    comes_to_run (Network net grid) told (read ∷ given ∷ []) (net_answer read_seen given_seen) result
+    (λ texts is. one_more texts net read (grid ∷ []) (given ∷ []) (told_under told told net read refl first texts is) (one_more texts grid given [] [] (told_under told second grid given stay next texts is) refl))
+    (λ other same. same ∙ ap (λ (b : List ℕ). net_answer b given_seen) read_is ∙ ap (λ (b : List ℕ). net_answer read b) given_is)
     ends
 
 pub order_runs : (told second : Option Texts) (save spec saved read : List ℕ) (saved_seen read_seen : List ℕ) (seed order_seed limit : ℕ) (result : Result Run Status) → second ≡ told → IfSome told (λ texts. text_at texts save ≡ Some saved) → IfSome second (λ texts. text_at texts spec ≡ Some read) → saved_seen ≡ saved → read_seen ≡ read → Ends result (order_answer saved_seen read_seen order_seed limit) → Runs (Order save spec seed order_seed limit) told result

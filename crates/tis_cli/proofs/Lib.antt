@@ -6,3 +6,5 @@ pub mod RunAnswers
 pub mod Fetching
 mod ClockAnswers
 pub mod Seeds
+mod SmallNets
+mod Networks

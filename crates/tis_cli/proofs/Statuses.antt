@@ -8,7 +8,7 @@ use Rattle.net_column.specs.Net.{Net}
 use Rattle.net_column.specs.Compiled.{compiled}
 use Rattle.tis_save.specs.Writing.{save_text}
 use Rattle.tis_cli.specs.Answers.{Completion, AllDone, Limited, Stopped, Failed, Answer, Refuses, Makes, Destination, Kept, Put, answer_status}
-use Rattle.tis_cli.specs.Commands.{Command, Compile, Run, Order, Replay, Grade, RunsTo, OrdersTo, ReplaysTo, GradesTo, command_of, fetched, destination_of, CompilesTo, ComesTo, AnswersAreOne, Debug, DebugsTo}
+use Rattle.tis_cli.specs.Commands.{Command, Compile, Run, Order, Replay, Grade, Network, NetComesTo, RunsTo, OrdersTo, ReplaysTo, GradesTo, command_of, fetched, destination_of, CompilesTo, ComesTo, AnswersAreOne, Debug, DebugsTo}
 use Rattle.tis_cli.specs.Outcomes.{IsCalled, PutsBytes, texts_under, World, IsOfAnswer, IsAnswered, IsCutShort, IsUnlessFailure, Explains}
 use Rattle.net_column.proofs.Found.{texts_have_one_net}
 
@@ -66,8 +66,15 @@ debugs_once (save ∷ spec ∷ []) one other first second = absurd first
 debugs_once (save ∷ spec ∷ script ∷ []) one other first second = first ∙ sym second
 debugs_once (save ∷ spec ∷ script ∷ more ∷ texts) one other first second = absurd first
 
+nets_once : (texts : List (List ℕ)) (one other : Answer) → NetComesTo texts one → NetComesTo texts other → one ≡ other
+nets_once [] one other first second = absurd first
+nets_once (net ∷ []) one other first second = absurd first
+nets_once (net ∷ grid ∷ []) one other first second = first ∙ sym second
+nets_once (net ∷ grid ∷ more ∷ texts) one other first second = absurd first
+
 pub answers_are_one : AnswersAreOne
 answers_are_one (Compile net save) texts one other first second = compiles_once texts one other first second
+answers_are_one (Network net grid) texts one other first second = nets_once texts one other first second
 answers_are_one (Run save spec seed cycles) texts one other first second = clocks_once cycles texts one other first second
 answers_are_one (Order save spec seed order_seed limit) texts one other first second = orders_once order_seed limit texts one other first second
 answers_are_one (Replay save spec seed events) texts one other first second = replays_once texts one other first second

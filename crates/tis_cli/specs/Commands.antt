@@ -7,6 +7,7 @@ use Rattle.tis_cli.specs.declared.command.Command.TheVariants as held_as
 use Rattle.tis_cli.specs.declared.status.Refusal.TheVariants.{NotThisForm}
 use Rattle.tis_cli.specs.Answers.{Answer, Refuses, Makes, AllDone, Destination, Kept, Put}
 use Rattle.tis_words.specs.Numerals.{number_of}
+use Rattle.tis_cli.specs.Nets.{net_answer}
 use Rattle.tis_cli.specs.Runs.{run_answer, order_answer, replay_answer, grade_answer, debug_answer}
 use Rattle.net_column.specs.Net.{Net}
 use Rattle.net_column.specs.Column.{NetOf}
@@ -19,6 +20,8 @@ use Rattle.tis_save.specs.Reading.{save_of}
 pub data Command : Type 0 where
   -- compiles the network under one name, and keeps its save under another
   Compile : (net : List ℕ) → (save : List ℕ) → Command
+  -- finds the streams of the network under one name over the inputs of the grid text under another
+  Network : (net : List ℕ) → (grid : List ℕ) → Command
   -- runs a save over a specification cycle by cycle, up to so many
   Run : (save : List ℕ) → (spec : List ℕ) → (seed : ℕ) → (cycles : ℕ) → Command
   -- runs a save over a specification, in an order that is drawn with a seed, up to so many events; the first seed is the specification's
@@ -71,7 +74,10 @@ debug_with save spec seed script = option_map (λ s. Debug save spec s script) s
 
 -- the command of so many words that these words are: that of every command but `grade`, which takes any number of seeds
 abbrev pub fixed_of : List (List ℕ) → Option Command
-fixed_of (word ∷ net ∷ save ∷ []) = if bytes_eq word (codes "compile") then Some (Compile net save) else None
+fixed_of (word ∷ first ∷ second ∷ []) =
+    if bytes_eq word (codes "compile") then Some (Compile first second)
+    else (if bytes_eq word (codes "net") then Some (Network first second)
+    else None)
 fixed_of (word ∷ save ∷ spec ∷ seed ∷ last ∷ []) =
     if bytes_eq word (codes "run") then run_with save spec (seed_of seed) (limit_of last)
     else (if bytes_eq word (codes "replay") then replay_with save spec (seed_of seed) last
@@ -91,6 +97,7 @@ kept_seeds kept = filter_map (λ seed. seed) kept
 -- what contracts see of a command that the program holds
 abbrev pub command_view : held.Command → Command
 command_view (held_as.Compile net save) = Compile net.now save.now
+command_view (held_as.Net net grid) = Network net.now grid.now
 command_view (held_as.Run save spec seed cycles) = Run save.now spec.now seed cycles
 command_view (held_as.Order save spec seed order_seed limit) = Order save.now spec.now seed order_seed limit
 command_view (held_as.Replay save spec seed events) = Replay save.now spec.now seed events.now
@@ -116,6 +123,15 @@ pub record IsCompiled (texts : List (List ℕ)) (bytes : List ℕ) : Type 0 wher
   pub saved : bytes ≡ save_text (compiled net)
   pub reads_back : save_of bytes net.tiles ≡ Ok (compiled net)
   pub carries : Carries (compiled net) net
+
+-- ---- net
+
+-- two texts are fetched
+abbrev pub NetComesTo : List (List ℕ) → Answer → Type 0
+NetComesTo (net ∷ grid ∷ []) answer = answer ≡ net_answer net grid
+NetComesTo [] answer = ⊥
+NetComesTo (text ∷ []) answer = ⊥
+NetComesTo (net ∷ grid ∷ other ∷ texts) answer = ⊥
 
 -- ---- run, order, replay, debug and grade
 
@@ -161,6 +177,7 @@ DebugsTo (save ∷ spec ∷ script ∷ other ∷ texts) answer = ⊥
 -- the names under which it fetches texts, in order
 abbrev pub fetched : Command → List (List ℕ)
 fetched (Compile net save) = net ∷ []
+fetched (Network net grid) = net ∷ grid ∷ []
 fetched (Run save spec seed cycles) = save ∷ spec ∷ []
 fetched (Order save spec seed order_seed limit) = save ∷ spec ∷ []
 fetched (Replay save spec seed events) = save ∷ spec ∷ events ∷ []
@@ -170,6 +187,7 @@ fetched (Debug save spec seed script) = save ∷ spec ∷ script ∷ []
 -- where what it makes goes
 abbrev pub destination_of : Command → Destination
 destination_of (Compile net save) = Kept save
+destination_of (Network net grid) = Put
 destination_of (Run save spec seed cycles) = Put
 destination_of (Order save spec seed order_seed limit) = Put
 destination_of (Replay save spec seed events) = Put
@@ -179,6 +197,7 @@ destination_of (Debug save spec seed script) = Put
 -- what it comes to over the texts that it fetched, where nothing fails: the first refusal that the texts and then the work meet, or how the work ends and what it makes
 abbrev pub ComesTo : Command → List (List ℕ) → Answer → Type 0
 ComesTo (Compile net save) texts answer = CompilesTo texts answer
+ComesTo (Network net grid) texts answer = NetComesTo texts answer
 ComesTo (Run save spec seed cycles) texts answer = RunsTo cycles texts answer
 ComesTo (Order save spec seed order_seed limit) texts answer = OrdersTo order_seed limit texts answer
 ComesTo (Replay save spec seed events) texts answer = ReplaysTo texts answer
@@ -188,6 +207,7 @@ ComesTo (Debug save spec seed script) texts answer = DebugsTo texts answer
 -- what is promised of the bytes that it made, where all is done; of a report nothing more than what it comes to
 abbrev pub IsPromised : Command → List (List ℕ) → List ℕ → Type 0
 IsPromised (Compile net save) texts bytes = IsCompiled texts bytes
+IsPromised (Network net grid) texts bytes = Unit {0}
 IsPromised (Run save spec seed cycles) texts bytes = Unit {0}
 IsPromised (Order save spec seed order_seed limit) texts bytes = Unit {0}
 IsPromised (Replay save spec seed events) texts bytes = Unit {0}

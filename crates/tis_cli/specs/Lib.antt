@@ -1,5 +1,6 @@
 pub mod Answers
 pub mod Runs
+pub mod Nets
 pub mod Ends
 pub mod Commands
 pub mod Outcomes

@@ -14,12 +14,16 @@ use Rattle.tis_debug.specs.declared.error.ScriptError.{ScriptError}
 use Rattle.tis_debug.specs.declared.error.ScriptError.TheVariants as script
 use Rattle.tis_base.specs.declared.store.StoreError.{StoreError}
 use Rattle.tis_base.specs.declared.store.StoreError.TheVariants as fault
-use Rattle.net_column.specs.declared.tree.NetError.{NetError}
+use Rattle.net_column.specs.declared.tree.NetError.{NetError as FormError}
 use Rattle.net_column.specs.declared.tree.NetError.TheVariants as unread
+use Rattle.net_syntax.specs.declared.error.NetError.{NetError}
+use Rattle.net_syntax.specs.declared.error.NetError.TheVariants as net
+use Rattle.net_rules.specs.declared.error.RuleError.{RuleError}
+use Rattle.net_rules.specs.declared.error.RuleError.TheVariants as rule
 use Rattle.tis_cli.specs.declared.status.Status.{Status}
 use Rattle.tis_cli.specs.declared.status.Status.TheVariants.{Done, NotPassed, Words, Refused, Missing, StoreFault, SinkFault, NoMemory, Limit}
 use Rattle.tis_cli.specs.declared.status.Refusal.{Refusal}
-use Rattle.tis_cli.specs.declared.status.Refusal.TheVariants.{NotThisForm, Save, Grid, Events, NotEnabled, Script}
+use Rattle.tis_cli.specs.declared.status.Refusal.TheVariants.{NotThisForm, Net, Rule, Save, Grid, Events, NotEnabled, Script}
 
 -- the number that the program ends with
 abbrev pub number_of : Status → ℕ
@@ -58,9 +62,33 @@ grid_words (grid.BadLine line) = with_number (codes "BadLine ") line
 grid_words (grid.SamePlace line) = with_number (codes "SamePlace ") line
 grid_words grid.NoMemory = codes "NoMemory"
 
+abbrev pub net_words : NetError → List ℕ
+net_words (net.BadLine line) = with_number (codes "BadLine ") line
+net_words (net.TooDeep line) = with_number (codes "TooDeep ") line
+net_words (net.StrayEnd line) = with_number (codes "StrayEnd ") line
+net_words (net.Unclosed line) = with_number (codes "Unclosed ") line
+net_words net.NoMemory = codes "NoMemory"
+
+abbrev pub rule_words : RuleError → List ℕ
+rule_words (rule.Unknown line) = with_number (codes "Unknown ") line
+rule_words (rule.Repeated line) = with_number (codes "Repeated ") line
+rule_words (rule.SamePlace line) = with_number (codes "SamePlace ") line
+rule_words (rule.ReadTwice line) = with_number (codes "ReadTwice ") line
+rule_words (rule.WrittenTwice line) = with_number (codes "WrittenTwice ") line
+rule_words (rule.CounterChanged line) = with_number (codes "CounterChanged ") line
+rule_words (rule.Unread line) = with_number (codes "Unread ") line
+rule_words (rule.Unwritten line) = with_number (codes "Unwritten ") line
+rule_words (rule.ReadBeforeWritten line) = with_number (codes "ReadBeforeWritten ") line
+rule_words (rule.NoSureRead process) = with_number (codes "NoSureRead ") process
+rule_words (rule.LoopWithoutRead line) = with_number (codes "LoopWithoutRead ") line
+rule_words (rule.JoinAfterSplit process) = with_number (codes "JoinAfterSplit ") process
+rule_words rule.NoMemory = codes "NoMemory"
+
 -- the name of a refusal, and its parts in order
 abbrev pub refusal_words : Refusal → List ℕ
 refusal_words NotThisForm = codes "NotThisForm"
+refusal_words (Net error) = codes "Net " ++ net_words error
+refusal_words (Rule error) = codes "Rule " ++ rule_words error
 refusal_words (Save error) = codes "Save " ++ save_words error
 refusal_words (Grid error) = codes "Grid " ++ grid_words error
 refusal_words (Events line) = with_number (codes "Events ") line
@@ -85,10 +113,33 @@ store_status fault.Missing = Missing
 store_status fault.Failed = StoreFault
 store_status fault.NoMemory = NoMemory
 
--- the status that a text that isn't read as a network ends a command with
+-- the status that a text that isn't read as a network of the form that is compiled ends a command with
+abbrev pub form_status : FormError → Status
+form_status unread.NotThisForm = Refused NotThisForm
+form_status unread.NoMemory = NoMemory
+
+-- the status that a text that is no network ends a command with, and a network that breaks a rule
 abbrev pub net_status : NetError → Status
-net_status unread.NotThisForm = Refused NotThisForm
-net_status unread.NoMemory = NoMemory
+net_status (net.BadLine line) = Refused (Net (net.BadLine line))
+net_status (net.TooDeep line) = Refused (Net (net.TooDeep line))
+net_status (net.StrayEnd line) = Refused (Net (net.StrayEnd line))
+net_status (net.Unclosed line) = Refused (Net (net.Unclosed line))
+net_status net.NoMemory = NoMemory
+
+abbrev pub rule_status : RuleError → Status
+rule_status (rule.Unknown line) = Refused (Rule (rule.Unknown line))
+rule_status (rule.Repeated line) = Refused (Rule (rule.Repeated line))
+rule_status (rule.SamePlace line) = Refused (Rule (rule.SamePlace line))
+rule_status (rule.ReadTwice line) = Refused (Rule (rule.ReadTwice line))
+rule_status (rule.WrittenTwice line) = Refused (Rule (rule.WrittenTwice line))
+rule_status (rule.CounterChanged line) = Refused (Rule (rule.CounterChanged line))
+rule_status (rule.Unread line) = Refused (Rule (rule.Unread line))
+rule_status (rule.Unwritten line) = Refused (Rule (rule.Unwritten line))
+rule_status (rule.ReadBeforeWritten line) = Refused (Rule (rule.ReadBeforeWritten line))
+rule_status (rule.NoSureRead process) = Refused (Rule (rule.NoSureRead process))
+rule_status (rule.LoopWithoutRead line) = Refused (Rule (rule.LoopWithoutRead line))
+rule_status (rule.JoinAfterSplit process) = Refused (Rule (rule.JoinAfterSplit process))
+rule_status rule.NoMemory = NoMemory
 
 -- the status that an error of a save ends a command with
 abbrev pub save_status : SaveError → Status

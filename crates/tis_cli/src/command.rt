@@ -16,6 +16,11 @@ pub enum Command<'a> {
         net: &'a str,
         save: &'a str,
     },
+    /// Finds the streams of the network under one name over the inputs of the grid text under another.
+    Net {
+        net: &'a str,
+        grid: &'a str,
+    },
     /// Runs a save over a specification cycle by cycle.
     Run {
         save: &'a str,
@@ -183,13 +188,19 @@ fn read_grade<'a>(words: &'a [String]) -> Option<Command<'a>>
 }
 
 // The command of three words, of which the first says which it is.
-fn read_three<'a>(word: &String, net: &'a String, save: &'a String) -> Option<Command<'a>>
-    ensures { fixed_of (string_bytes word.now ∷ string_bytes net.now ∷ string_bytes save.now ∷ []) ≡ option_map command_view result }
+fn read_three<'a>(word: &String, first: &'a String, second: &'a String) -> Option<Command<'a>>
+    ensures { fixed_of (string_bytes word.now ∷ string_bytes first.now ∷ string_bytes second.now ∷ []) ≡ option_map command_view result }
 {
     if word.as_str() == "compile" {
         return Some(Command::Compile {
-            net: net.as_str(),
-            save: save.as_str(),
+            net: first.as_str(),
+            save: second.as_str(),
+        });
+    }
+    if word.as_str() == "net" {
+        return Some(Command::Net {
+            net: first.as_str(),
+            grid: second.as_str(),
         });
     }
     None

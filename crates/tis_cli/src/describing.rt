@@ -2,9 +2,11 @@
 ghost use Rattle.std.specs.Prelude.{◌≡◌, ◌++◌, OnOk};
 ghost use Rattle.tis_base.specs.Answers.{Gives};
 ghost use Rattle.tis_save.specs.declared.error.SaveError.TheVariants.{Asm};
-ghost use Rattle.tis_cli.specs.Statuses.{with_number, asm_words, save_words, grid_words, refusal_words, status_line};
+ghost use Rattle.tis_cli.specs.Statuses.{with_number, asm_words, net_words, rule_words, save_words, grid_words, refusal_words, status_line};
 
 use crate::status::{Refusal, Status};
+use net_rules::RuleError;
+use net_syntax::NetError;
 use std::alloc::Global;
 use tis_asm::AsmError;
 use tis_base::NoMemory;
@@ -73,6 +75,60 @@ fn push_save(line: &mut Vec<u8>, error: SaveError) -> Result<(), NoMemory>
     }
 }
 
+// Writes why a text is no network.
+fn push_net(line: &mut Vec<u8>, error: NetError) -> Result<(), NoMemory>
+    ensures { OnOk result (line.new.items ≡ line.old.items ++ net_words error) }
+{
+    match error {
+        NetError::BadLine { line: at } => push_with_number(line, b"BadLine ", at as u64),
+        NetError::TooDeep { line: at } => push_with_number(line, b"TooDeep ", at as u64),
+        NetError::StrayEnd { line: at } => push_with_number(line, b"StrayEnd ", at as u64),
+        NetError::Unclosed { line: at } => push_with_number(line, b"Unclosed ", at as u64),
+        NetError::NoMemory => push_name(line, b"NoMemory"),
+    }
+}
+
+// Writes which rule a network breaks.
+fn push_rule(line: &mut Vec<u8>, error: RuleError) -> Result<(), NoMemory>
+    ensures { OnOk result (line.new.items ≡ line.old.items ++ rule_words error) }
+{
+    match error {
+        RuleError::Unknown { line: at } => push_with_number(line, b"Unknown ", at as u64),
+        RuleError::Repeated { line: at } => push_with_number(line, b"Repeated ", at as u64),
+        RuleError::SamePlace { line: at } => push_with_number(line, b"SamePlace ", at as u64),
+        RuleError::ReadTwice { line: at } => push_with_number(line, b"ReadTwice ", at as u64),
+        RuleError::WrittenTwice { line: at } => push_with_number(line, b"WrittenTwice ", at as u64),
+        RuleError::CounterChanged { line: at } => push_with_number(
+            line,
+            b"CounterChanged ",
+            at as u64,
+        ),
+        RuleError::Unread { line: at } => push_with_number(line, b"Unread ", at as u64),
+        RuleError::Unwritten { line: at } => push_with_number(line, b"Unwritten ", at as u64),
+        RuleError::ReadBeforeWritten { line: at } => push_with_number(
+            line,
+            b"ReadBeforeWritten ",
+            at as u64,
+        ),
+        RuleError::NoSureRead { process } => push_with_number(
+            line,
+            b"NoSureRead ",
+            u64::from(process),
+        ),
+        RuleError::LoopWithoutRead { line: at } => push_with_number(
+            line,
+            b"LoopWithoutRead ",
+            at as u64,
+        ),
+        RuleError::JoinAfterSplit { process } => push_with_number(
+            line,
+            b"JoinAfterSplit ",
+            u64::from(process),
+        ),
+        RuleError::NoMemory => push_name(line, b"NoMemory"),
+    }
+}
+
 // Writes why a text is no grid.
 fn push_grid(line: &mut Vec<u8>, error: GridTextError) -> Result<(), NoMemory>
     ensures { OnOk result (line.new.items ≡ line.old.items ++ grid_words error) }
@@ -90,6 +146,14 @@ fn push_refusal(line: &mut Vec<u8>, refusal: Refusal) -> Result<(), NoMemory>
 {
     match refusal {
         Refusal::NotThisForm => push_name(line, b"NotThisForm"),
+        Refusal::Net(error) => {
+            push_name(line, b"Net ")?;
+            push_net(line, error)
+        }
+        Refusal::Rule(error) => {
+            push_name(line, b"Rule ")?;
+            push_rule(line, error)
+        }
         Refusal::Save(error) => {
             push_name(line, b"Save ")?;
             push_save(line, error)

@@ -28,7 +28,7 @@
 //! # What it costs
 //!
 //! A `compile` goes over its text from left to right once, and holds the text, the network, its programs and
-//! the save in memory. A `run`, an `order`, a `replay` or a `grade` holds its texts, the grid with two bytes for each value of an
+//! the save in memory. A `net` holds its texts, a list for each channel and output, and the report. A `run`, an `order`, a `replay` or a `grade` holds its texts, the grid with two bytes for each value of an
 //! output, and the report.
 //!
 //! # What it doesn't do
@@ -40,6 +40,7 @@ mod command;
 mod describing;
 mod grades;
 mod laws;
+mod nets;
 mod run;
 mod runs;
 mod status;
@@ -51,6 +52,8 @@ pub use status::{Refusal, Status};
 
 #[cfg(test)]
 mod grade_tests;
+#[cfg(test)]
+mod net_tests;
 #[cfg(test)]
 mod run_tests;
 #[cfg(test)]

@@ -2,11 +2,12 @@
 ghost use Rattle.std.specs.Prelude.{◌≡◌, ◌≢◌, ◌↔◌, ◌⊎◌, ℕ, List, Option, Some, None, OnOk, OnErr, IfErr, IsErrOf};
 ghost use Rattle.tis_base.specs.Outside.{Texts, Rose};
 ghost use Rattle.tis_cli.specs.Answers.{Answer, Put, answer_status};
-ghost use Rattle.tis_cli.specs.Commands.{Command as SomeCommand, Compile, Run as ByClock, Order, Replay, Grade, Debug, command_of, command_view, kept_seeds, fetched, destination_of, ComesTo};
+ghost use Rattle.tis_cli.specs.Commands.{Command as SomeCommand, Compile, Network, Run as ByClock, Order, Replay, Grade, Debug, command_of, command_view, kept_seeds, fetched, destination_of, ComesTo};
 ghost use Rattle.tis_cli.specs.Outcomes.{words_of, IsCalled, PutsReport, PutsBytes, texts_under, IsOfAnswer, IsOfWork, IsAnswered, IsCutShort, IsUnlessFailure, status_after, Explains, Runs, IsPut, AreEnds, Finishes};
 
 use crate::command::{Command, SEEDS, read_words};
 use crate::grades::grade;
+use crate::nets::net as net_streams;
 use crate::runs::{Run, clock, debug, order, replay};
 use crate::status::Status;
 use net_column::{emit, read_net};
@@ -39,6 +40,20 @@ fn status_of(outcome: Result<(), Status>) -> Status
         Ok(()) => Status::Done,
         Err(status) => status,
     }
+}
+
+// What the streams of a network over a grid text under these names come to.
+fn work_of_net<S: Store>(alloc: Global, net: &str, grid: &str, store: &mut S) -> Result<Run, Status>
+    ensures runs { Runs (Network net.now grid.now) (S.texts store.old) result }
+    ensures texts_stay { S.texts store.new ≡ S.texts store.old }
+    ensures missing_counted { IsErrOf result Status.Missing → Rose (S.misses store.old) (S.misses store.new) }
+    ensures fault_counted { IsErrOf result Status.StoreFault → Rose (S.faults store.old) (S.faults store.new) }
+    ensures misses_stay { result ≢ Err Status.Missing → S.misses store.new ≡ S.misses store.old }
+    ensures faults_stay { result ≢ Err Status.StoreFault → S.faults store.new ≡ S.faults store.old }
+{
+    let text = store.fetch(alloc, net)?;
+    let given = store.fetch(alloc, grid)?;
+    net_streams(alloc, &text, &given)
 }
 
 // What a run by the clock over the texts under these names comes to.
@@ -191,6 +206,7 @@ fn perform<S: Store, K: Sink>(alloc: Global, command: Command, store: &mut S, ou
 {
     match command {
         Command::Compile { net, save } => status_of(compile(alloc, net, save, store)),
+        Command::Net { net, grid } => finish(work_of_net(alloc, net, grid, store), out),
         Command::Run {
             save,
             spec,
@@ -231,7 +247,8 @@ fn perform<S: Store, K: Sink>(alloc: Global, command: Command, store: &mut S, ou
 /// Does what the words say, and says how it ended.
 ///
 /// `compile NET SAVE` fetches the text under the name NET, and keeps the canonical save of the
-/// network that it is under the name SAVE. `run SAVE SPEC SEED CYCLES` runs a save over a specification cycle
+/// network that it is under the name SAVE. `net NET GRID` puts the Kahn stream of each output of a network over the
+/// inputs of a grid text. `run SAVE SPEC SEED CYCLES` runs a save over a specification cycle
 /// by cycle, and puts a report; `order SAVE SPEC SEED ORDERSEED LIMIT` runs it in an order that is drawn with
 /// ORDERSEED; `replay SAVE SPEC SEED EVENTS`
 /// runs it by the events of a text; `grade SAVE SPEC LIMIT SEED [SEED ..]` says whether it passes for each of one to eight

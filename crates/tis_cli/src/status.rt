@@ -2,7 +2,9 @@
 ghost use Rattle.std.specs.Prelude.{◌≡◌};
 ghost use Rattle.tis_cli.specs.Statuses.{number_of};
 
-use net_column::NetError;
+use net_column::NetError as FormError;
+use net_rules::RuleError;
+use net_syntax::NetError;
 use tis_base::{NoMemory, SinkError, StoreError};
 use tis_debug::ScriptError;
 use tis_grade::Verdict;
@@ -14,6 +16,10 @@ use tis_save::SaveError;
 pub enum Refusal {
     /// The network isn't of the form that is taken so far.
     NotThisForm,
+    /// The text is no network.
+    Net(NetError),
+    /// The network breaks a rule.
+    Rule(RuleError),
     /// The text isn't a save of these tiles.
     Save(SaveError),
     /// The specification isn't a grid text.
@@ -94,6 +100,20 @@ impl From<StoreError> for Status {
     }
 }
 
+impl From<FormError> for Status {
+    ghost use Rattle.std.specs.Prelude.{◌≡◌};
+    ghost use Rattle.tis_cli.specs.Statuses.{form_status};
+
+    ghost from_gives = { λ error status. status ≡ form_status error };
+
+    fn from(error: FormError) -> Self {
+        match error {
+            FormError::NotThisForm => Status::Refused(Refusal::NotThisForm),
+            FormError::NoMemory => Status::NoMemory,
+        }
+    }
+}
+
 impl From<NetError> for Status {
     ghost use Rattle.std.specs.Prelude.{◌≡◌};
     ghost use Rattle.tis_cli.specs.Statuses.{net_status};
@@ -102,8 +122,22 @@ impl From<NetError> for Status {
 
     fn from(error: NetError) -> Self {
         match error {
-            NetError::NotThisForm => Status::Refused(Refusal::NotThisForm),
             NetError::NoMemory => Status::NoMemory,
+            _ => Status::Refused(Refusal::Net(error)),
+        }
+    }
+}
+
+impl From<RuleError> for Status {
+    ghost use Rattle.std.specs.Prelude.{◌≡◌};
+    ghost use Rattle.tis_cli.specs.Statuses.{rule_status};
+
+    ghost from_gives = { λ error status. status ≡ rule_status error };
+
+    fn from(error: RuleError) -> Self {
+        match error {
+            RuleError::NoMemory => Status::NoMemory,
+            _ => Status::Refused(Refusal::Rule(error)),
         }
     }
 }

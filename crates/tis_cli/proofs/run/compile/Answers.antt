@@ -1,5 +1,5 @@
 use Rattle.std.proofs.Common.{rules, ◌≡◌, ℕ, List, ◌∙◌, Ok, Err, ap, subst}
-use Rattle.tis_cli.specs.Statuses.{net_status}
+use Rattle.tis_cli.specs.Statuses.{form_status}
 use Rattle.tis_asm.specs.Programs.{Programs}
 use Rattle.tis_save.specs.Writing.{save_text}
 use Rattle.tis_save.specs.Reading.{save_of}
@@ -10,7 +10,7 @@ use Rattle.tis_cli.proofs.run.compile.Goals as goal
 
 pub returns-in_err-tree-clause-explains : goal.returns-in_err-tree-clause-explains
 returns-in_err-tree-clause-explains g c written =
-    let status : c.from_residual-in_err-tree.result ≡ Err (net_status c.in_err-tree.field-0.0) = search rules in
+    let status : c.from_residual-in_err-tree.result ≡ Err (form_status c.in_err-tree.field-0.0) = search rules in
     rw status
     (unread_explained (g.S.Store.texts c.args.store.now) c.args.net.now c.args.save.now c.in_ok-text.text.items c.deref.result.now c.in_ok-text.ensures.ok c.deref.ensures.value
     (g.S.Store.texts c.fetch.new.self) c.in_ok-text.ensures.texts_stay written c.in_err-tree.field-0.0

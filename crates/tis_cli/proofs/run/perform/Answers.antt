@@ -1,11 +1,14 @@
 use Rattle.std.proofs.Common.{refl, sym, ◌∙◌}
-use Rattle.tis_cli.specs.Commands.{Run, Order, Replay, Grade, kept_seeds, Debug}
+use Rattle.tis_cli.specs.Commands.{Network, Run, Order, Replay, Grade, kept_seeds, Debug}
 use Rattle.tis_cli.proofs.Putting.{runs_end, finished}
 use Rattle.tis_cli.proofs.Statuses.{never_put}
 use Rattle.tis_cli.proofs.run.perform.Goals as goal
 
 pub finish-requires : goal.finish-requires
-finish-requires g c = runs_end (Run c.in-Run.save.now c.in-Run.spec.now c.in-Run.seed c.in-Run.cycles) (g.S.Store.texts c.args.store.now) c.work_of_run.result (c.work_of_run.ensures.runs c.in-Run.seed)
+finish-requires g c = runs_end (Network c.in-Net.net.now c.in-Net.grid.now) (g.S.Store.texts c.args.store.now) c.work_of_net.result c.work_of_net.ensures.runs
+
+pub finish-requires-in-Run : goal.finish-requires-in-Run
+finish-requires-in-Run g c = runs_end (Run c.in-Run.save.now c.in-Run.spec.now c.in-Run.seed c.in-Run.cycles) (g.S.Store.texts c.args.store.now) c.work_of_run.result (c.work_of_run.ensures.runs c.in-Run.seed)
 
 pub finish-requires-in-Order : goal.finish-requires-in-Order
 finish-requires-in-Order g c = runs_end (Order c.in-Order.save.now c.in-Order.spec.now c.in-Order.seed c.in-Order.order_seed c.in-Order.limit) (g.S.Store.texts c.args.store.now) c.work_of_order.result (c.work_of_order.ensures.runs c.in-Order.seed)
@@ -26,11 +29,17 @@ pub returns-in-Compile-clause-sink_fault_counted : goal.returns-in-Compile-claus
 returns-in-Compile-clause-sink_fault_counted g c failed =
     absurd (never_put c.in-Compile.net.now c.in-Compile.save.now _ _ _ _ (c.compile.ensures.explains (g.K.Sink.written c.args.out.now)) (sym c.status_of.ensures ∙ failed))
 
+pub returns-in-Net-clause-explains : goal.returns-in-Net-clause-explains
+returns-in-Net-clause-explains g c =
+    rw c.in-Net.is
+    (finished (Network c.in-Net.net.now c.in-Net.grid.now) refl (λ found bytes. tt) (g.S.Store.texts c.args.store.now) (g.S.Store.texts c.work_of_net.new.store) c.work_of_net.ensures.texts_stay
+    c.work_of_net.result c.work_of_net.ensures.runs (g.K.Sink.written c.args.out.now) (g.K.Sink.written c.finish.new.out) c.finish.result c.finish.ensures.finishes)
+
 pub returns-in-Run-clause-explains : goal.returns-in-Run-clause-explains
 returns-in-Run-clause-explains g c =
     rw c.in-Run.is
     (finished (Run c.in-Run.save.now c.in-Run.spec.now c.in-Run.seed c.in-Run.cycles) refl (λ found bytes. tt) (g.S.Store.texts c.args.store.now) (g.S.Store.texts c.work_of_run.new.store) c.work_of_run.ensures.texts_stay
-    c.work_of_run.result (c.work_of_run.ensures.runs c.in-Run.seed) (g.K.Sink.written c.args.out.now) (g.K.Sink.written c.finish.new.out) c.finish.result c.finish.ensures.finishes)
+    c.work_of_run.result (c.work_of_run.ensures.runs c.in-Run.seed) (g.K.Sink.written c.args.out.now) (g.K.Sink.written c.finish-in-Run.new.out) c.finish-in-Run.result c.finish-in-Run.ensures.finishes)
 
 pub returns-in-Order-clause-explains : goal.returns-in-Order-clause-explains
 returns-in-Order-clause-explains g c =
