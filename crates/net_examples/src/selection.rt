@@ -10,13 +10,14 @@ use tis_base::Dir;
 const HEAD: &[u8] = b"net 1\ntiles CCCC CCCC CCCC\ninput a at 1\noutput o at 1\nprocess p\n";
 
 // What is selected for a process: the text of its code, and how many lines it has.
+#[derive(Drop)]
 struct Selected {
     text: Vec<u8>,
     lines: u64,
 }
 
 // A process that reads a from above and writes o in this direction.
-fn selected(alloc: Global, body: &[u8], dir: Dir) -> Result<Selected, Fail> {
+fn selection_of(alloc: Global, body: &[u8], dir: Dir) -> Result<Selected, Fail> {
     let mut text = HEAD.to_vec(alloc)?;
     text.extend_from_slice(body)?;
     text.extend_from_slice(b"end\n")?;
@@ -300,7 +301,7 @@ const BLOCKS: [(&[u8], &[u8]); 10] = [
 // Each body of a table has the code beside it, which has as many lines as told.
 fn have_this_code(alloc: Global, rows: &[(&[u8], &[u8])]) -> Result<bool, Fail> {
     for (body, code) in rows {
-        let found = selected(alloc, body, Dir::Down)?;
+        let found = selection_of(alloc, body, Dir::Down)?;
         let lines = code.iter().filter(|byte| **byte == b'\n').count();
         if found.text.as_slice() != *code || found.lines != lines as u64 {
             return Ok(false);
@@ -325,7 +326,7 @@ fn each_statement_has_its_code(rt: HostRuntime) -> Result<(), Fail> {
     assert!(&rt; have_this_code(alloc, &STATEMENTS)?);
     assert!(&rt; have_this_code(alloc, &TESTS)?);
     assert!(&rt; have_this_code(alloc, &BLOCKS)?);
-    let right = selected(alloc, b"get a x\ndouble x\nput o x\n", Dir::Right)?;
+    let right = selection_of(alloc, b"get a x\ndouble x\nput o x\n", Dir::Right)?;
     assert_eq!(&rt;
         right.text.as_slice(),
         b"MOV UP, ACC\nADD ACC\nMOV ACC, RIGHT\n".as_slice()
@@ -337,7 +338,7 @@ fn each_statement_has_its_code(rt: HostRuntime) -> Result<(), Fail> {
         (b"neg y\n".as_slice(), 1000, 3002),
         (b"copy x y\n".as_slice(), 7, 16),
     ] {
-        let found = selected(alloc, &body_of(alloc, statement, count)?, Dir::Down)?;
+        let found = selection_of(alloc, &body_of(alloc, statement, count)?, Dir::Down)?;
         assert_eq!(&rt; found.lines, lines);
         assert_eq!(&rt;
             found.text.as_slice() == b"too long\n".as_slice(),
