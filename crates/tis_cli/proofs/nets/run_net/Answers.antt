@@ -1,8 +1,10 @@
-use Rattle.std.proofs.Common.{rules, ◌≡◌, ap, Err, refl}
+use Rattle.std.proofs.Common.{rules, ◌≡◌, List, map, ap, subst, Err, refl}
+use Rattle.tis_grid.specs.declared.puzzle.InputAt.{InputAt}
+use Rattle.net_kahn.specs.Found.{Finds}
 use Rattle.net_tree.specs.View.{net_view}
 use Rattle.net_rules.specs.CheckedNet.{net_of}
 use Rattle.net_rules.specs.Rules.{first_broken}
-use Rattle.tis_grid.specs.Puzzle.{puzzle_of}
+use Rattle.tis_grid.specs.Puzzle.{input_of, puzzle_of}
 use Rattle.tis_cli.specs.Answers.{Makes, AllDone}
 use Rattle.tis_cli.specs.Nets.{net_report}
 use Rattle.tis_cli.specs.Statuses.{rule_status}
@@ -17,7 +19,8 @@ returns-in_err-checked c =
 pub returns : goal.returns
 returns c = (
   AllDone,
-  net_done (net_view c.args.net.now) (net_of c.in_ok-checked.checked) (puzzle_of c.args.puzzle.now) c.in_ok-found.found c.shape.result.columns c.in_ok-report.report.items c.in_ok-checked.ensures.0.accepted c.in_ok-checked.ensures.1 c.in_ok-found.ensures
+  net_done (net_view c.args.net.now) (net_of c.in_ok-checked.checked) (puzzle_of c.args.puzzle.now) c.in_ok-found.found c.shape.result.columns c.in_ok-report.report.items c.in_ok-checked.ensures.0.accepted c.in_ok-checked.ensures.1
+      (subst (λ (l : List InputAt). Finds c.in_ok-found.found (net_of c.in_ok-checked.checked) (map input_of l)) c.deref.ensures.value c.in_ok-found.ensures)
       (ap (λ s. s.columns) c.shape.ensures.shape) c.in_ok-report.ensures,
   refl,
 )
