@@ -1,5 +1,5 @@
 -- The tables: rows of a store, each with the values at its keys.
-use Rattle.std.specs.Prelude.{ℕ, zero, suc, ◌+◌, pos, List, [], ◌∷◌, get_or, set, nat_lt, if◌then◌else◌}
+use Rattle.std.specs.Prelude.{ℕ, zero, suc, ◌+◌, pos, List, [], ◌∷◌, get_or, set, max, if◌then◌else◌}
 use Rattle.lua_machine.specs.Value.{LuaValue, Nil, Number, is_same, is_nil}
 
 -- a table: the value at each key, nil at one that is missing; and a number above which no number was ever a key
@@ -22,7 +22,7 @@ place_of _ = 0
 
 -- with a value at a key; storing nil removes
 abbrev pub with_key : Row → LuaValue → LuaValue → Row
-with_key table key value = record { at = λ other. if is_same key other then value else table.at other; last = if nat_lt table.last (place_of key) then place_of key else table.last }
+with_key table key value = record { at = λ other. if is_same key other then value else table.at other; last = max table.last (place_of key) }
 
 -- how many keys are there one after the other from a number on, counted no further than so many
 abbrev pub run_from : ℕ → Row → ℕ → ℕ

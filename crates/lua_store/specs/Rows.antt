@@ -1,0 +1,31 @@
+-- Tables by their held keys and values, and the tables that they stand for.
+use Rattle.std.specs.Prelude.{ℕ, List, Option, Some, None}
+use Rattle.std.specs.Option.{unwrap_or}
+use Rattle.std.specs.Map.{lookup}
+use Rattle.lua_machine.specs.Value.{LuaValue, Nil}
+use Rattle.lua_machine.specs.Tables as lua
+use Rattle.lua_store.specs.declared.value.SmallValue.{SmallValue}
+use Rattle.lua_store.specs.declared.value.SmallValue.TheVariants as small
+use Rattle.lua_store.specs.declared.value.Key.{Key}
+use Rattle.lua_store.specs.Values.{Texts, meant, held_key, same_key}
+
+-- the keys with their values, in some order, and a number above which no number was ever a key
+pub record Cells : Type 0 where
+  pub entries : List (Key × SmallValue)
+  pub last : ℕ
+
+-- the value at a key, nil where there is none
+abbrev pub held_in : List (Key × SmallValue) → Key → SmallValue
+held_in entries key = unwrap_or (lookup (same_key key) entries) small.Nil
+
+abbrev pub at_held : Cells → Key → SmallValue
+at_held cells key = held_in cells.entries key
+
+-- and at the held key that stands for a value, where there is one
+abbrev pub at_found : Texts → Cells → Option Key → LuaValue
+at_found texts cells None = Nil
+at_found texts cells (Some key) = meant texts (at_held cells key)
+
+-- the table of Lua
+abbrev pub row_of : Texts → Cells → lua.Row
+row_of texts cells = record { at = λ value. at_found texts cells (held_key texts value); last = cells.last }
