@@ -1,5 +1,5 @@
 -- Held keys and what they stand for.
-use Rattle.std.proofs.Common.{◌≡◌, ℕ, zero, suc, ◌+◌, ◌-◌, ◌<◌, Bool, true, false, cond, not, List, [], ◌∷◌, length, get_or, refl, sym, ap, ◌∙◌, arith, Option, None, Some, true≢false, nat_eq, pos}
+use Rattle.std.proofs.Common.{◌≡◌, ℕ, zero, suc, ◌+◌, ◌<◌, Bool, true, false, cond, not, List, [], ◌∷◌, length, get_or, refl, sym, ap, ◌∙◌, arith, Option, None, Some, true≢false, nat_eq, pos}
 use Rattle.std.specs.Prelude.{max}
 use Rattle.std.specs.Option.{is_some, option_map, unwrap_or}
 use Rattle.std.specs.List.{position, position_or_len}
@@ -121,9 +121,11 @@ put_at texts apart k h value old new each last = λ j. record { at = λ other. h
     pushed : (b : Bool) (one other : SmallValue) → meant texts (cond b one other) ≡ cond b (meant texts one) (meant texts other)
     pushed true one other = refl
     pushed false one other = refl
+
     by : (r : Option Key) → at_found texts new r ≡ cond (matches k r) (meant texts value) (at_found texts old r)
     by None = refl
     by (Some q) = ap (meant texts) (each q) ∙ pushed (same_key k q) value (held_in old.entries q)
+
     here : (other : LuaValue) → at_found texts new (held_key texts other) ≡ cond (is_same (meant_key texts k) other) (meant texts value) (at_found texts old (held_key texts other))
     here other = by (held_key texts other) ∙ ap (λ b. cond b (meant texts value) (at_found texts old (held_key texts other))) (sym (same_held texts apart k h other))
 
@@ -165,6 +167,5 @@ run_ends zero table first e = refl
 run_ends (suc most) table first e = ap (λ b. cond b 0 (suc (run_from most table (first + 1)))) e
 
 -- a key that is there makes it longer
-pub run_goes_on : (most : ℕ) (table : Row) (first : ℕ) → 0 < most → is_nil (at_key table (lua.Number (pos first))) ≡ false → run_from most table first ≡ suc (run_from (most - 1) table (first + 1))
-run_goes_on zero table first h e = absurd (omega (arith, h))
-run_goes_on (suc most) table first h e = ap (λ b. cond b 0 (suc (run_from most table (first + 1)))) e
+pub run_goes_on : (most rest : ℕ) (table : Row) (first : ℕ) → most ≡ suc rest → is_nil (at_key table (lua.Number (pos first))) ≡ false → run_from most table first ≡ suc (run_from rest table (first + 1))
+run_goes_on most rest table first h e = ap (λ n. run_from n table first) h ∙ ap (λ b. cond b 0 (suc (run_from rest table (first + 1)))) e

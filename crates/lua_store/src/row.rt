@@ -1,6 +1,8 @@
 //! A table: its keys with their values.
-ghost use Rattle.std.specs.Prelude.{◌≡◌, ◌<◌, ◌^◌, OnOk, OnErr, if◌then◌else◌};
+ghost use Rattle.std.specs.Prelude.{◌≡◌, ◌<◌, ◌^◌, pos, OnOk, OnErr, if◌then◌else◌};
 ghost use Rattle.lua_machine.specs.Tables.{at_key, border, no_keys, place_of, with_key};
+ghost use Rattle.lua_machine.specs.Value.{is_nil};
+ghost use Rattle.lua_store.specs.declared.value.Key.TheVariants.{Number};
 ghost use Rattle.lua_store.specs.Rows.{at_held, held_in, row_of};
 ghost use Rattle.lua_store.specs.Values.{AreApart, IsHeldKey, Texts, meant, meant_key, same_key};
 
@@ -63,7 +65,7 @@ impl Row {
         ensures { (texts : Texts) → result ≡ border (row_of texts self.now) }
     {
         for n in 0..self.last {
-            if found(&self.values, Key::Number(n as i64 + 1)).is_nil() {
+            if is_missing(&self.values, n + 1) {
                 return n;
             }
         }
@@ -107,4 +109,12 @@ fn put(values: &mut IndexMap<Key, SmallValue>, key: Key, value: SmallValue) -> R
             Ok(())
         }
     }
+}
+
+// Whether nothing is at a number.
+fn is_missing(values: &IndexMap<Key, SmallValue>, number: u64) -> bool
+    requires { number < 2 ^ 63 }
+    ensures { (texts : Texts) → result ≡ is_nil (meant texts (held_in values.now.entries (Number (pos number)))) }
+{
+    found(values, Key::Number(number as i64)).is_nil()
 }
