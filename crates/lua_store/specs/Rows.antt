@@ -1,5 +1,5 @@
 -- Tables by their held keys and values, and the tables that they stand for.
-use Rattle.std.specs.Prelude.{ℕ, List, Option, Some, None}
+use Rattle.std.specs.Prelude.{ℕ, List, map, Option, Some, None}
 use Rattle.std.specs.Option.{unwrap_or}
 use Rattle.std.specs.Map.{lookup}
 use Rattle.lua_machine.specs.Value.{LuaValue, Nil}
@@ -29,3 +29,7 @@ at_found texts cells (Some key) = meant texts (at_held cells key)
 -- the table of Lua
 abbrev pub row_of : Texts → Cells → lua.Row
 row_of texts cells = record { at = λ value. at_found texts cells (held_key texts value); last = cells.last }
+
+-- and the tables of Lua, row by row
+abbrev pub tables_of : Texts → List Cells → List lua.Row
+tables_of texts rows = map (row_of texts) rows

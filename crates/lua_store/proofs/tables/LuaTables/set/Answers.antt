@@ -1,0 +1,14 @@
+use Rattle.std.proofs.Common.{List, get_or, length, ◌<◌, ◌≡◌, ap, sym, subst, ◌∙◌}
+use Rattle.lua_machine.specs.Tables.{stored, with_key}
+use Rattle.lua_store.specs.Values.{meant, meant_key}
+use Rattle.lua_store.specs.Rows.{Cells, row_of, tables_of}
+use Rattle.lua_store.proofs.Store.{stored_at}
+use Rattle.lua_store.proofs.tables.LuaTables.set.Goals as goal
+
+pub returns-clause-stored : goal.returns-clause-stored
+returns-clause-stored c = λ texts apart held.
+    let inside : c.args.at < length c.self.inside.rows.items = subst (λ (rows : List Cells). c.args.at < length rows) (sym c.self.view_is) c.requires in
+    let its : c.index_mut-table.result.now ≡ get_or c.self.inside.rows.items c.args.at c.index_mut-table.result.now = c.index_mut-table.ensures.value in
+    stored_at texts c.self.inside.rows.items c.args.at c.index_mut-table.result.now c.set.new.self _ _ inside
+    (c.in_ok-set.ensures.stored texts apart held ∙ ap (λ (cells : Cells). with_key (row_of texts cells) (meant_key texts c.args.key) (meant texts c.args.value)) its)
+    ∙ ap (λ (rows : List Cells). stored (tables_of texts rows) c.args.at (meant_key texts c.args.key) (meant texts c.args.value)) c.self.view_is
