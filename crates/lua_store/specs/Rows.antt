@@ -1,5 +1,5 @@
 -- Tables by their held keys and values, and the tables that they stand for.
-use Rattle.std.specs.Prelude.{ℕ, List, map, Option, Some, None}
+use Rattle.std.specs.Prelude.{◌≡◌, ℕ, ◌≤◌, List, length, map, Option, Some, None}
 use Rattle.std.specs.Option.{unwrap_or}
 use Rattle.std.specs.Map.{lookup}
 use Rattle.lua_machine.specs.Value.{LuaValue, Nil}
@@ -7,7 +7,8 @@ use Rattle.lua_machine.specs.Tables as lua
 use Rattle.lua_store.specs.declared.value.SmallValue.{SmallValue}
 use Rattle.lua_store.specs.declared.value.SmallValue.TheVariants as small
 use Rattle.lua_store.specs.declared.value.Key.{Key}
-use Rattle.lua_store.specs.Values.{Texts, meant, held_key, same_key}
+use Rattle.lua_store.specs.declared.value.Key.TheVariants as key
+use Rattle.lua_store.specs.Values.{Texts, IsHeld, meant, held_key, same_key}
 
 -- the keys with their values, in some order, and a number above which no number was ever a key
 pub record Cells : Type 0 where
@@ -16,15 +17,19 @@ pub record Cells : Type 0 where
 
 -- the value at a key, nil where there is none
 abbrev pub held_in : List (Key × SmallValue) → Key → SmallValue
-held_in entries key = unwrap_or (lookup (same_key key) entries) small.Nil
+held_in entries at = unwrap_or (lookup (same_key at) entries) small.Nil
 
 abbrev pub at_held : Cells → Key → SmallValue
-at_held cells key = held_in cells.entries key
+at_held cells at = held_in cells.entries at
+
+-- the texts of its values and of its keys are held
+abbrev pub AreHeld : Texts → Cells → Type 0
+AreHeld texts cells = ((at : Key) → IsHeld texts (at_held cells at)) × ((at : ℕ) → length texts ≤ at → at_held cells (key.Text at) ≡ small.Nil)
 
 -- and at the held key that stands for a value, where there is one
 abbrev pub at_found : Texts → Cells → Option Key → LuaValue
 at_found texts cells None = Nil
-at_found texts cells (Some key) = meant texts (at_held cells key)
+at_found texts cells (Some at) = meant texts (at_held cells at)
 
 -- the table of Lua
 abbrev pub row_of : Texts → Cells → lua.Row

@@ -20,6 +20,7 @@
 //! Faults, their lines and the units that an evaluation pays are for the caller.
 #![tactic(auto)]
 
+pub mod laws;
 mod row;
 mod tables;
 mod texts;

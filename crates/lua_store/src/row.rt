@@ -3,8 +3,8 @@ ghost use Rattle.std.specs.Prelude.{◌≡◌, ◌<◌, ◌^◌, pos, OnOk, OnEr
 ghost use Rattle.lua_machine.specs.Tables.{at_key, border, no_keys, place_of, with_key};
 ghost use Rattle.lua_machine.specs.Value.{is_nil};
 ghost use Rattle.lua_store.specs.declared.value.Key.TheVariants.{Number};
-ghost use Rattle.lua_store.specs.Rows.{at_held, held_in, row_of};
-ghost use Rattle.lua_store.specs.Values.{AreApart, IsHeldKey, Texts, meant, meant_key, same_key};
+ghost use Rattle.lua_store.specs.Rows.{AreHeld, at_held, held_in, row_of};
+ghost use Rattle.lua_store.specs.Values.{AreApart, IsHeld, IsHeldKey, Texts, meant, meant_key, same_key};
 
 use crate::value::{Key, SmallValue};
 use indexmap::IndexMap;
@@ -33,7 +33,8 @@ impl Model for Row {
 impl Row {
     /// A table without keys. It takes no memory.
     pub fn new(alloc: Global) -> Row
-        ensures { (texts : Texts) → row_of texts result ≡ no_keys }
+        ensures held { (texts : Texts) → AreHeld texts result }
+        ensures empty { (texts : Texts) → row_of texts result ≡ no_keys }
     {
         Row {
             values: IndexMap::new(alloc),
@@ -43,7 +44,8 @@ impl Row {
 
     /// The value at a key, nil where there is none.
     pub fn get(&self, key: Key) -> SmallValue
-        ensures held { result ≡ at_held self.now key }
+        ensures found { result ≡ at_held self.now key }
+        ensures held { (texts : Texts) → AreHeld texts self.now → IsHeld texts result }
         ensures value { (texts : Texts) → AreApart texts → IsHeldKey texts key → meant texts result ≡ at_key (row_of texts self.now) (meant_key texts key) }
     {
         found(&self.values, key)
@@ -52,6 +54,7 @@ impl Row {
     /// Puts a value at a key. Nil takes the key out.
     pub fn set(&mut self, key: Key, value: SmallValue) -> Result<(), NoMemory>
         ensures stored { OnOk result ((texts : Texts) → AreApart texts → IsHeldKey texts key → row_of texts self.new ≡ with_key (row_of texts self.old) (meant_key texts key) (meant texts value)) }
+        ensures held { OnOk result ((texts : Texts) → AreHeld texts self.old → IsHeldKey texts key → IsHeld texts value → AreHeld texts self.new) }
         ensures unchanged { OnErr result (self.new ≡ self.old) }
     {
         put(&mut self.values, key, value)?;

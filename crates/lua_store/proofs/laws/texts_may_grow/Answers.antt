@@ -1,0 +1,8 @@
+use Rattle.lua_store.proofs.Growing.{grown, still_held}
+use Rattle.lua_store.proofs.laws.texts_may_grow.Goals as goal
+
+pub returns-clause-same : goal.returns-clause-same
+returns-clause-same c = grown
+
+pub returns-clause-held : goal.returns-clause-held
+returns-clause-held c = still_held
