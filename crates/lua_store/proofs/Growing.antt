@@ -1,8 +1,8 @@
 -- Once another text is held, what was held stands for the same.
-use Rattle.std.proofs.Common.{◌≡◌, ℕ, ◌+◌, ◌<◌, ◌≤◌, Bool, true, false, cond, not, List, [], ◌∷◌, ◌++◌, length, refl, sym, ap, subst, ◌∙◌, arith, None, Some, nat_eq}
+use Rattle.std.proofs.Common.{◌≡◌, ℕ, suc, ◌+◌, ◌<◌, ◌≤◌, Bool, true, false, cond, not, List, [], ◌∷◌, ◌++◌, length, refl, sym, ap, subst, ◌∙◌, arith, None, Some, nat_eq}
 use Rattle.std.specs.Prelude.{nat_lt}
 use Rattle.std.specs.Option.{option_map}
-use Rattle.std.specs.List.{position, position_or_len, prefix_len, list_any}
+use Rattle.std.specs.List.{All, position, position_or_len, prefix_len, list_any}
 use Rattle.std.specs.Str.{bytes_eq}
 use Rattle.std.proofs.lemmas.Bool.Decides.{Decides-eqb, Decides-ltb, nat_tests}
 use Rattle.std.proofs.lemmas.List.{get_or_append_left, length-append}
@@ -14,7 +14,7 @@ use Rattle.lua_store.specs.declared.value.SmallValue.TheVariants as small
 use Rattle.lua_store.specs.declared.value.Key.{Key}
 use Rattle.lua_store.specs.declared.value.Key.TheVariants as key
 use Rattle.lua_store.specs.Values.{Texts, IsHeld, IsHeldKey, held_key, meant, same_key, with_text}
-use Rattle.lua_store.specs.Rows.{AreHeld, Cells, at_found, at_held, held_in, row_of}
+use Rattle.lua_store.specs.Rows.{AreHeld, Cells, at_found, at_held, held_in, row_of, tables_of}
 
 isnt : (b : Bool) → (b ≡ true → ⊥) → b ≡ false
 isnt true n = absurd (n refl)
@@ -93,3 +93,11 @@ held_put texts k value old new each held its whose =
     by : (b : Bool) (other : SmallValue) → IsHeld texts other → IsHeld texts (cond b value other)
     by true other h = whose
     by false other h = h
+
+-- and so do many tables
+pub tables_grown : (texts : Texts) (bytes : List ℕ) (rows : List Cells) → All (AreHeld texts) rows → tables_of (with_text texts bytes) rows ≡ tables_of texts rows
+tables_grown texts bytes [] held = refl
+tables_grown texts bytes (cells ∷ rows) held =
+    let first = grown texts bytes cells (held 0 cells (omega arith)) in
+    let others = tables_grown texts bytes rows (λ k d h. held (suc k) d (omega (arith, h))) in
+    λ j. first j ∷ others j
