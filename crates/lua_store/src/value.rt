@@ -1,7 +1,7 @@
 //! Values and keys, small and copied.
-ghost use Rattle.std.specs.Prelude.{◌≡◌};
-ghost use Rattle.lua_machine.specs.Value.{is_nil, is_same};
-ghost use Rattle.lua_store.specs.Values.{AreApart, IsHeld, Texts, as_key, meant};
+ghost use Rattle.std.specs.Prelude.{◌≡◌, true, false, MatchOption, IfSome};
+ghost use Rattle.lua_machine.specs.Value.{is_key, is_nil, is_same};
+ghost use Rattle.lua_store.specs.Values.{AreApart, IsHeld, IsHeldKey, Texts, as_key, meant, meant_key};
 
 use lua_numbers::LuaNumber;
 
@@ -26,7 +26,9 @@ pub enum Key {
 impl SmallValue {
     /// This value as a key, where it is one.
     pub fn as_key(self) -> Option<Key>
-        ensures { result ≡ as_key self }
+        ensures exact { result ≡ as_key self }
+        ensures value { (texts : Texts) → MatchOption result (is_key (meant texts self) ≡ false) (λ key. (is_key (meant texts self) ≡ true) × (meant_key texts key ≡ meant texts self)) }
+        ensures held { (texts : Texts) → IsHeld texts self → IfSome result (λ key. IsHeldKey texts key) }
     {
         match self {
             SmallValue::Truth(truth) => Some(Key::Truth(truth)),
