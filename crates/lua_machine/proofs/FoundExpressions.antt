@@ -4,6 +4,7 @@ use Rattle.std.specs.Prelude.{Option, Some, None, nat_lt}
 use Rattle.lua_tree.specs.declared.tree.BinaryOp.{BinaryOp}
 use Rattle.lua_machine.specs.Tree as t
 use Rattle.lua_machine.specs.Tree.{Node, Nodes, none, ◌and◌, EntryNodes, StatementNode, BlockNode, ◌andthen◌, ArmNodes, ItemNode}
+use Rattle.lua_machine.specs.Tables.{no_keys}
 use Rattle.lua_machine.specs.Value.{LuaValue, Nil, Truth, Number, Fault, UnknownName, TooDeepCalls}
 use Rattle.lua_machine.specs.State.{State, Done, gives, fails, value_of, entered}
 use Rattle.lua_machine.specs.Operators.{text, decides, is_logical}
@@ -136,7 +137,7 @@ module _ (chunk : List ItemNode) (main : Function) (E : ℕ → Turned → Type 
   expression_by n x s (t.MathCall called args line) frames calls state c h = math_at n x called args line frames calls state c (math_of called) refl h
   expression_by n x s (t.TableCall called args line) frames calls state c h = table_at n x called args line frames calls state c (table_of called) refl h
   expression_by n x s (t.Construct entries) frames calls state c h =
-      let p = known.entries_at chunk main E never step more n x entries (length state.tables) 1 frames calls (record state { tables = state.tables ++ [] ∷ [] }) (c + 1) h in
+      let p = known.entries_at chunk main E never step more n x entries (length state.tables) 1 frames calls (record state { tables = state.tables ++ no_keys ∷ [] }) (c + 1) h in
       record { given = p.given; cost = p.cost + 1; total = p.total; derived = y.construct p.derived; sum = sum_more _ _ _ _ p.sum; rest = more n _ p.rest }
   expression_by n x s (t.Unary op of line) frames calls state c h =
       of_parts n x (t.Unary op of line) (of and none) 1 (Unary op line) (unary_result op line) (λ v s f m k. refl) frames calls state c (λ d k p. y.unary p) h

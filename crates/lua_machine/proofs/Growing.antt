@@ -5,7 +5,7 @@ use Rattle.lua_tree.specs.declared.tree.BinaryOp.{BinaryOp}
 use Rattle.lua_machine.specs.Tree as t
 use Rattle.lua_machine.specs.Tree.{Node, Nodes, none, ◌and◌, EntryNodes, StatementNode, BlockNode, ◌andthen◌, ArmNodes, ItemNode}
 use Rattle.lua_machine.specs.Value.{LuaValue, Number, Text, Fault, is_true, is_key}
-use Rattle.lua_machine.specs.Tables.{stored}
+use Rattle.lua_machine.specs.Tables.{no_keys, stored}
 use Rattle.lua_machine.specs.State.{State, Done, declared, entered}
 use Rattle.lua_machine.specs.Operators.{text, decides, is_logical}
 use Rattle.lua_machine.specs.Library.{MathFunction, TableFunction, math_of, table_of, math_result, table_result}
@@ -135,7 +135,7 @@ by_expression chunk (t.Member table called line) frames calls state c = same (c 
 by_expression chunk (t.Call called args line) frames calls state c = by_call (function_of chunk called) args line frames calls state c
 by_expression chunk (t.MathCall called args line) frames calls state c = by_math (math_of called) args line frames calls state c
 by_expression chunk (t.TableCall called args line) frames calls state c = by_table (table_of called) args line frames calls state c
-by_expression chunk (t.Construct entries) frames calls state c = by_entries entries (length state.tables) 1 frames calls (record state { tables = state.tables ++ [] ∷ [] }) (c + 1)
+by_expression chunk (t.Construct entries) frames calls state c = by_entries entries (length state.tables) 1 frames calls (record state { tables = state.tables ++ no_keys ∷ [] }) (c + 1)
 by_expression chunk (t.Unary op of line) frames calls state c = same (c + 1)
 by_expression chunk (t.Binary op west east line) frames calls state c = by_binary (is_logical op) op west east line frames calls state c
 

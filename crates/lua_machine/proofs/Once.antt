@@ -3,7 +3,7 @@ use Rattle.std.proofs.Common.{◌≡◌, ℕ, suc, ◌+◌, Bool, true, false, L
 use Rattle.std.specs.Prelude.{Option, Some, None}
 use Rattle.lua_machine.specs.Tree.{Node, Nodes, EntryNodes, StatementNode, BlockNode, ArmNodes, ItemNode}
 use Rattle.lua_machine.specs.Value.{LuaValue, Nil, Truth, Number, Text, Table, Fault, TypeFault, UnknownName, TooDeepCalls, is_true, is_key}
-use Rattle.lua_machine.specs.Tables.{stored}
+use Rattle.lua_machine.specs.Tables.{no_keys, stored}
 use Rattle.lua_machine.specs.State.{State, Done, gives, fails, value_of, assigned, declared, left_block, entered, left_call}
 use Rattle.lua_machine.specs.Operators.{text, decides}
 use Rattle.lua_machine.specs.Library.{math_result, table_result}
@@ -188,7 +188,7 @@ mutual
   once_node (y.table_call {line = line} {function = function} f1 p) st (y.table_call {parts = parts2} f2 q) =
       let l = once_all p st q in (ap (λ (d : Done (List LuaValue)). after d (table_result function line)) l.0 ∙ ap (λ fn. after parts2 (table_result fn line)) (some_same _ _ _ f1 f2), ap (λ n. n + 1) l.1)
   once_node (y.construct p) st (y.construct q) =
-      let l = once_fills p (ap (λ (s : State). record s { tables = s.tables ++ [] ∷ [] }) st) (ap (λ (s : State). length s.tables) st) q in (l.0, ap (λ n. n + 1) l.1)
+      let l = once_fills p (ap (λ (s : State). record s { tables = s.tables ++ no_keys ∷ [] }) st) (ap (λ (s : State). length s.tables) st) q in (l.0, ap (λ n. n + 1) l.1)
 
   pub once_all : {chunk : List ItemNode} {calls cost more : ℕ} {state last : State} {nodes : Nodes} {done other : Done (List LuaValue)} → AllEvaluate chunk calls state nodes done cost → state ≡ last → AllEvaluate chunk calls last nodes other more → Same done other cost more
   once_all y.all st y.all =

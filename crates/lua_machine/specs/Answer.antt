@@ -3,7 +3,7 @@ use Rattle.std.specs.Prelude.{◌≡◌, ℕ, zero, suc, ◌+◌, ◌≤◌, ℤ
 use Rattle.lua_machine.specs.Tree as t
 use Rattle.lua_machine.specs.Tree.{Node, BlockNode, ItemNode, items_of}
 use Rattle.lua_machine.specs.Value.{LuaValue, Nil, Truth, Number, Text, Table, Fault}
-use Rattle.lua_machine.specs.Tables.{Entries, plain_list, row}
+use Rattle.lua_machine.specs.Tables.{Row, plain_list, row}
 use Rattle.lua_machine.specs.State.{State, fresh, entered}
 use Rattle.lua_machine.specs.Functions.{Function, function_of}
 use Rattle.lua_machine.specs.Yields.{Gone, goes, stops, Executes, Runs, returned}
@@ -36,7 +36,7 @@ each make [] = record { value = no_values; cost = 0 }
 each make (first ∷ more) = record { value = (make first).value and (each make more).value; cost = (make first).cost + (each make more).cost }
 
 -- a value made plain, where so many tables may still lie one inside the other; each value that is made plain costs a unit, a deep one too
-abbrev pub plain_of : ℕ → List Entries → LuaValue → Paid PlainValue
+abbrev pub plain_of : ℕ → List Row → LuaValue → Paid PlainValue
 plain_of levels tables Nil = record { value = PlainNil; cost = 1 }
 plain_of levels tables (Truth b) = record { value = PlainTruth b; cost = 1 }
 plain_of levels tables (Number n) = record { value = PlainNumber n; cost = 1 }
@@ -59,7 +59,7 @@ pub data Assigns : List ItemNode → State → List ItemNode → Gone → ℕ �
       Executes chunk 0 state (t.Assign called of) (goes now) cost → Assigns chunk now more gone rest → Assigns chunk state (t.Set called of ∷ more) gone (cost + rest)
 
 -- a value made plain, or the fault
-abbrev pub made_plain : List Entries → Result LuaValue Fault → Result (Paid PlainValue) Fault
+abbrev pub made_plain : List Row → Result LuaValue Fault → Result (Paid PlainValue) Fault
 made_plain tables (Ok value) = Ok (plain_of 4 tables value)
 made_plain tables (Err why) = Err why
 

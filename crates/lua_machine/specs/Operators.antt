@@ -8,7 +8,7 @@ use Rattle.lua_tree.specs.declared.tree.UnaryOp.TheVariants as unary
 use Rattle.lua_tree.specs.declared.tree.BinaryOp.{BinaryOp}
 use Rattle.lua_tree.specs.declared.tree.BinaryOp.TheVariants as binary
 use Rattle.lua_machine.specs.Value.{LuaValue, Truth, Number, Text, Table, Fault, TypeFault, Inexact, OutOfRange, LongString, is_true, is_same}
-use Rattle.lua_machine.specs.Tables.{Entries, border, row}
+use Rattle.lua_machine.specs.Tables.{Row, border, row}
 
 -- numbers go from -2^53 to 2^53
 abbrev pub greatest : ℕ
@@ -31,7 +31,7 @@ text line bytes = if nat_le (length bytes) longest then Ok (Text bytes) else Err
 
 -- ---- `not`, `-`, `#`
 
-abbrev pub unary_of : UnaryOp → ℕ → List Entries → LuaValue → Answer
+abbrev pub unary_of : UnaryOp → ℕ → List Row → LuaValue → Answer
 unary_of unary.Not line tables a = Ok (Truth (not (is_true a)))
 unary_of unary.Minus line tables (Number n) = Ok (Number (neg_ℤ n))
 unary_of unary.Length line tables (Text bytes) = Ok (Number (pos (length bytes)))

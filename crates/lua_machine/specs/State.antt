@@ -4,7 +4,7 @@ use Rattle.std.specs.Str.{bytes_eq}
 use Rattle.rand_pcg.specs.Lcg.{Lcg, started, increment_of}
 use Rattle.rand_pcg.specs.Pcg.{multiplier_64}
 use Rattle.lua_machine.specs.Value.{LuaValue, Nil, Number, Fault}
-use Rattle.lua_machine.specs.Tables.{Entries}
+use Rattle.lua_machine.specs.Tables.{Row}
 
 -- names with their values
 abbrev pub Variables : Type 0
@@ -14,7 +14,7 @@ Variables = List (List ℕ × LuaValue)
 pub record State : Type 0 where
   pub locals : Variables
   pub globals : Variables
-  pub tables : List Entries
+  pub tables : List Row
   pub generator : Lcg
 
 -- what an evaluation comes to: a value of its own kind or a fault, and the state behind it

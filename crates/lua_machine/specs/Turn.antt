@@ -5,7 +5,7 @@ use Rattle.lua_tree.specs.declared.tree.BinaryOp.TheVariants as op_of
 use Rattle.lua_machine.specs.Tree as t
 use Rattle.lua_machine.specs.Tree.{Node, Nodes, none, ◌and◌, EntryNodes, StatementNode, BlockNode, ItemNode, ◌andthen◌, ArmNodes}
 use Rattle.lua_machine.specs.Value.{LuaValue, Nil, Truth, Number, Text, Table, Fault, TypeFault, UnknownName, TooDeepCalls, is_true, is_key}
-use Rattle.lua_machine.specs.Tables.{stored}
+use Rattle.lua_machine.specs.Tables.{no_keys, stored}
 use Rattle.lua_machine.specs.State.{State, Done, gives, value_of, assigned, declared, entered, fresh}
 use Rattle.lua_machine.specs.Operators.{text, is_logical, decides}
 use Rattle.lua_machine.specs.Library.{MathFunction, Floor, TableFunction, math_of, table_of, math_result, table_result}
@@ -182,7 +182,7 @@ expression_begun chunk (t.Member table called line) frames calls state cost = be
 expression_begun chunk (t.Call called args line) frames calls state cost = call_begun (function_of chunk called) args line frames calls state cost
 expression_begun chunk (t.MathCall called args line) frames calls state cost = math_begun (math_of called) args line frames calls state cost
 expression_begun chunk (t.TableCall called args line) frames calls state cost = table_begun (table_of called) args line frames calls state cost
-expression_begun chunk (t.Construct entries) frames calls state cost = filling (length state.tables) 1 entries frames calls (record state { tables = state.tables ++ [] ∷ [] }) (cost + 1)
+expression_begun chunk (t.Construct entries) frames calls state cost = filling (length state.tables) 1 entries frames calls (record state { tables = state.tables ++ no_keys ∷ [] }) (cost + 1)
 expression_begun chunk (t.Unary op of line) frames calls state cost = begun (Unary op line) [] (of and none) frames calls state (cost + 1)
 expression_begun chunk (t.Binary op left right line) frames calls state cost = binary_begun (is_logical op) op left right line frames calls state cost
 

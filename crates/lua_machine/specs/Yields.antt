@@ -9,7 +9,7 @@ use Rattle.lua_tree.specs.declared.tree.BinaryOp.TheVariants as op_of
 use Rattle.lua_machine.specs.Tree as t
 use Rattle.lua_machine.specs.Tree.{Node, Nodes, none, ◌and◌, EntryNodes, StatementNode, BlockNode, ItemNode, ◌andthen◌, ArmNodes}
 use Rattle.lua_machine.specs.Value.{LuaValue, Nil, Truth, Number, Text, Table, Fault, TypeFault, UnknownName, OutOfRange, TooDeepCalls, is_true, is_key}
-use Rattle.lua_machine.specs.Tables.{at_key, row, stored}
+use Rattle.lua_machine.specs.Tables.{at_key, no_keys, row, stored}
 use Rattle.lua_machine.specs.State.{State, Done, gives, fails, value_of, assigned, declared, left_block, entered, left_call}
 use Rattle.lua_machine.specs.Operators.{text, greatest, unary_of, binary_of, floor_of_quotient, is_logical, decides}
 use Rattle.lua_machine.specs.Library.{MathFunction, Floor, TableFunction, math_of, table_of, math_result, table_result}
@@ -185,7 +185,7 @@ mutual
         AllEvaluate chunk calls state args parts cost → Evaluates chunk calls state (t.TableCall called args line) (after parts (table_result function line)) (cost + 1)
     -- a new row, into which the entries go
     construct : {chunk : List ItemNode} {calls cost : ℕ} {state : State} {entries : EntryNodes} {done : Done LuaValue} →
-        Fills chunk calls (record state { tables = state.tables ++ [] ∷ [] }) (length state.tables) 1 entries done cost → Evaluates chunk calls state (t.Construct entries) done (cost + 1)
+        Fills chunk calls (record state { tables = state.tables ++ no_keys ∷ [] }) (length state.tables) 1 entries done cost → Evaluates chunk calls state (t.Construct entries) done (cost + 1)
 
   -- several, from left to right, up to the first fault
   pub data AllEvaluate : List ItemNode → ℕ → State → Nodes → Done (List LuaValue) → ℕ → Type 0 where

@@ -1,0 +1,4 @@
+pub mod Gathered
+pub mod Growing
+pub mod Held
+pub mod Store
