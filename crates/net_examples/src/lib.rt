@@ -11,4 +11,6 @@
 #![tactic(auto)]
 
 #[cfg(test)]
+mod samples;
+#[cfg(test)]
 mod selection;
