@@ -1,4 +1,6 @@
 //! Processes drawn at random: what their code gives on one node is what their streams are.
+ghost use Rattle.net_rules.specs.CheckedNet.{IsChecked};
+
 use net_kahn::streams;
 use net_rules::{Checked, check, is_small};
 use net_select::{Ports, select};
@@ -226,7 +228,9 @@ fn run_of(alloc: Global, program: &Program, above: &Values, left: &Values) -> Re
 }
 
 // Whether the first process of a network has a program, which gives what the streams of the network are.
-fn agrees(alloc: Global, checked: &Checked, seed: u64) -> Result<Option<bool>, Fail> {
+fn agrees(alloc: Global, checked: &Checked, seed: u64) -> Result<Option<bool>, Fail>
+    requires { IsChecked checked.now }
+{
     if checked.len() == 0 {
         return Ok(None);
     }
