@@ -23,3 +23,4 @@ pub mod Drawing
 pub mod Frames
 mod Intended
 pub mod Returning
+pub mod PuzzlePorts

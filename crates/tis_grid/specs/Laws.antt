@@ -1,5 +1,5 @@
 -- Laws of every grid, whatever its programs and whatever the order.
-use Rattle.std.specs.Prelude.{◌≡◌, ◌↔◌, ℕ, ◌<◌, ◌≤◌, List, [], ◌++◌, length, sum_by, Some, Contains}
+use Rattle.std.specs.Prelude.{◌≡◌, ◌↔◌, ℕ, ◌<◌, ◌≤◌, false, List, [], ◌++◌, length, sum_by, Some, Contains}
 use Rattle.std.specs.List.{range_with_len}
 use Rattle.tis_base.specs.Prefix.{IsPrefixOf}
 use Rattle.tis_base.specs.Tiles.{IsCompute, opposite}
@@ -7,6 +7,8 @@ use Rattle.tis_base.specs.declared.tiles.Dir.{Dir}
 use Rattle.tis_base.specs.declared.tiles.Dir.TheVariants.{Up, Down}
 use Rattle.tis_asm.specs.PortRuns.{IsPortRun, after_steps, taken_from, given_to}
 use Rattle.tis_grid.specs.declared.event.Event.{Event}
+use Rattle.tis_base.specs.declared.tiles.TileKind.{TileKind}
+use Rattle.tis_grid.specs.Puzzle.{Puzzle, IsPuzzle, Port, IsPort, is_taken, with_port, bare}
 use Rattle.tis_grid.specs.State.{Grid, IsGrid, State, node_at, outs, start}
 use Rattle.tis_grid.specs.Events.{program_of, next_tile, bottom_of, IsEnabled}
 use Rattle.tis_grid.specs.Orders.{Fits, after, IsLegal, IsAtRest}
@@ -86,3 +88,11 @@ ReturnsFit = (grid : Grid) (state earlier : State) → Fits grid state → Fits 
 abbrev pub PointsBringBack : Type 0
 PointsBringBack = (grid : Grid) (state : State) (events : List Event) (end : State) → IsOrder grid state events end →
     CanReturn end (point_of state) × (returned end (point_of state) ≡ state)
+
+-- twelve tiles without a port are a puzzle
+abbrev pub BareArePuzzles : Type 0
+BareArePuzzles = (kinds : List TileKind) → length kinds ≡ 12 → IsPuzzle (bare kinds)
+
+-- a puzzle with one more port, at a position where none stands on its side, is a puzzle
+abbrev pub PortsMakePuzzles : Type 0
+PortsMakePuzzles = (puzzle : Puzzle) (port : Port) → IsPuzzle puzzle → IsPort puzzle.tiles.shape.columns port → is_taken puzzle port ≡ false → IsPuzzle (with_port puzzle port)

@@ -1,8 +1,9 @@
 -- Puzzles as contracts see them: records, lists and numbers.
-use Rattle.std.specs.Prelude.{◌≢◌, ℕ, ◌<◌, ℤ, Bool, List, [], ◌∷◌, map, All, AllPairs, IsTrue, ◌==◌, if◌then◌else◌}
-use Rattle.std.specs.List.{list_any}
+use Rattle.std.specs.Prelude.{◌≢◌, ℕ, ◌<◌, ℤ, pos, negsuc, Bool, false, ◌&&◌, List, [], ◌∷◌, ◌++◌, length, map, All, AllPairs, IsTrue, ◌==◌, nat_le, if◌then◌else◌}
+use Rattle.std.specs.List.{list_all, list_any}
 use Rattle.tis_base.specs.Saturation.{IsValue}
 use Rattle.tis_base.specs.Tiles.{Tiles, AreTiles}
+use Rattle.tis_base.specs.declared.tiles.TileKind.{TileKind}
 use Rattle.tis_grid.specs.declared.puzzle.OutKind.{OutKind}
 use Rattle.tis_grid.specs.declared.puzzle.InputAt.{InputAt}
 use Rattle.tis_grid.specs.declared.puzzle.OutputAt.{OutputAt}
@@ -61,3 +62,40 @@ has_output outputs position = list_any (λ output. output.position == position) 
 -- an output stands at this position
 abbrev pub HasOutput : List Output → ℕ → Type 0
 HasOutput outputs position = IsTrue (has_output outputs position)
+
+-- ---- port by port
+
+-- an input above a column, or an output below one
+pub data Port : Type 0 where
+  Above : (input : Input) → Port
+  Below : (output : Output) → Port
+
+-- a port at one of these columns; what comes in are values of the machine
+abbrev pub IsPort : ℕ → Port → Type 0
+IsPort columns (Above input) = (input.position < columns) × All IsValue input.values
+IsPort columns (Below output) = output.position < columns
+
+-- whether a port stands at this position on its side
+abbrev pub is_taken : Puzzle → Port → Bool
+is_taken puzzle (Above input) = has_input puzzle.inputs input.position
+is_taken puzzle (Below output) = has_output puzzle.outputs output.position
+
+-- the puzzle with one more port
+abbrev pub with_port : Puzzle → Port → Puzzle
+with_port puzzle (Above input) = record puzzle { inputs = puzzle.inputs ++ input ∷ [] }
+with_port puzzle (Below output) = record puzzle { outputs = puzzle.outputs ++ output ∷ [] }
+
+-- four columns and three rows of tiles without a port
+abbrev pub bare : List TileKind → Puzzle
+bare kinds = record { tiles = record { shape = record { columns = 4; rows = 3 }; kinds = kinds }; inputs = []; outputs = [] }
+
+-- ---- what an image wants
+
+-- whether a value is a colour, from 0 to 4
+abbrev pub is_colour : ℤ → Bool
+is_colour (pos number) = nat_le number 4
+is_colour (negsuc number) = false
+
+-- whether these are the colours of all 540 points of the console, row by row
+unfoldable pub is_picture : List ℤ → Bool
+is_picture values = length values == 540 && list_all is_colour values

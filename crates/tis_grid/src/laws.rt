@@ -1,5 +1,5 @@
 //! Laws of every grid, whatever its programs and whatever the order.
-ghost use Rattle.tis_grid.specs.Laws.{StartFits, OrdersKeepFitting, OrdersAreRuns, LinksPassAll, InputsPassAll, OutputsPassAll, StepsCountEvents, EnabledAreListed, RestListsNone, DrawnOrdersAreLegal, DrawnOrdersGrow, ReturnsFit, PointsBringBack};
+ghost use Rattle.tis_grid.specs.Laws.{StartFits, OrdersKeepFitting, OrdersAreRuns, LinksPassAll, InputsPassAll, OutputsPassAll, StepsCountEvents, EnabledAreListed, RestListsNone, DrawnOrdersAreLegal, DrawnOrdersGrow, ReturnsFit, PointsBringBack, BareArePuzzles, PortsMakePuzzles};
 
 /// The start of a grid is a state of it, and so is what a legal order leads to.
 pub fn states_fit()
@@ -44,4 +44,11 @@ pub fn drawn_orders_are_legal()
 pub fn points_bring_back()
     ensures fits { ReturnsFit }
     ensures back { PointsBringBack }
+{}
+
+/// Twelve tiles without a port are a puzzle, and so is a puzzle with one more port, at a position that no port on its
+/// side has.
+pub fn ports_make_puzzles()
+    ensures bare { BareArePuzzles }
+    ensures port { PortsMakePuzzles }
 {}

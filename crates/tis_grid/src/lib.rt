@@ -57,9 +57,9 @@ pub use event::Event;
 pub use grid::Grid;
 pub use laws::{
     drawn_orders_are_legal, enabled_events_are_listed, events_are_counted, links_pass_all,
-    orders_are_runs, points_bring_back, states_fit,
+    orders_are_runs, points_bring_back, ports_make_puzzles, states_fit,
 };
 pub use point::Point;
-pub use puzzle::{InputAt, OutKind, OutputAt, Puzzle};
+pub use puzzle::{InputAt, OutKind, OutputAt, Puzzle, is_picture};
 pub use running::{Ended, OrderError};
 pub use state::State;

@@ -1,11 +1,9 @@
 -- What a grid's text gives is a puzzle.
-use Rattle.std.proofs.Common.{◌≡◌, ◌≢◌, ℕ, suc, ◌+◌, ◌<◌, ◌≤◌, ℤ, pos, true, false, cond, List, [], ◌∷◌, ◌++◌, length, get_or, Option, Some, None, Result, Ok, Err, refl, ap, ◌∙◌, subst, arith, length-append, neg_ℤ}
+use Rattle.std.proofs.Common.{◌≡◌, ℕ, suc, ◌+◌, ◌≤◌, ℤ, pos, true, false, cond, List, [], ◌∷◌, ◌++◌, length, Option, Some, None, Result, Ok, Err, refl, ap, ◌∙◌, subst, arith, length-append, neg_ℤ}
 use Rattle.std.specs.Prelude.{Bool, All, ◌==◌, nat_le, option_map, option_and_then}
-use Rattle.std.proofs.lemmas.Bool.{leb-true, eqb-true, eq-eqb}
+use Rattle.std.proofs.lemmas.Bool.{leb-true, eqb-true}
 use Rattle.std.proofs.lemmas.Int.{ints}
-use Rattle.std.proofs.lemmas.List.Elements.{All-nil, All-cons, All-push}
-use Rattle.std.proofs.lemmas.List.Folds.{list_any_at}
-use Rattle.std.proofs.lemmas.List.Quantifiers.{all_pairs_push}
+use Rattle.std.proofs.lemmas.List.Elements.{All-nil, All-cons}
 use Rattle.tis_base.specs.Saturation.{IsValue}
 use Rattle.tis_base.specs.Lines.{text_lines}
 use Rattle.tis_base.specs.declared.tiles.TileKind.{TileKind}
@@ -15,8 +13,10 @@ use Rattle.tis_words.specs.Lines.{NonBlank, non_blank_lines}
 use Rattle.tis_words.specs.Numerals.{number_of, value_of, at_most, spelled}
 use Rattle.tis_grid.specs.declared.puzzle.OutKind.{OutKind}
 use Rattle.tis_grid.specs.declared.puzzle.OutKind.TheVariants.{Stream, Image}
-use Rattle.tis_grid.specs.Puzzle.{Puzzle, IsPuzzle, Input, Output, has_input, has_output}
-use Rattle.tis_grid_text.specs.GridText.{Refusal, BadLine, SamePlace, is_head, kind_of, kinds_of, row_of, rows_of, tiles_of, values_of, image_of, Port, Above, Below, input_at, output_at, port_of, is_taken, with_port, with_line, goes_on, with_lines, bare, tiles_line, behind_head, grid_lines, grid_of}
+use Rattle.tis_base.specs.Tiles.{Tiles, AreTiles}
+use Rattle.tis_grid.specs.Puzzle.{Puzzle, IsPuzzle, Port, Above, Below, IsPort, is_taken, with_port, bare}
+use Rattle.tis_grid.proofs.PuzzlePorts.{bare_are_puzzles, ports_make_puzzles}
+use Rattle.tis_grid_text.specs.GridText.{Refusal, BadLine, SamePlace, is_head, kind_of, kinds_of, row_of, rows_of, tiles_of, values_of, image_of, input_at, output_at, port_of, with_line, goes_on, with_lines, tiles_line, behind_head, grid_lines, grid_of}
 use Rattle.tis_grid_text.specs.Soundness.{GridsArePuzzles}
 
 -- ---- what holds of what is read
@@ -89,67 +89,45 @@ values_hold (word ∷ words) =
 -- ---- ports
 
 -- a port stands at one of four columns, and what comes in are values
-IsPort : Port → Type 0
-IsPort (Above input) = (input.position ≤ 3) × All IsValue input.values
-IsPort (Below output) = output.position ≤ 3
+IsHere : Port → Type 0
+IsHere (Above input) = (input.position ≤ 3) × All IsValue input.values
+IsHere (Below output) = output.position ≤ 3
 
-input_holds : (position : Option ℕ) (values : Option (List ℤ)) → Holds (λ n. n ≤ 3) position → Holds (λ v. All IsValue v) values → Holds IsPort (input_at position values)
-unfolding IsPort
+input_holds : (position : Option ℕ) (values : Option (List ℤ)) → Holds (λ n. n ≤ 3) position → Holds (λ v. All IsValue v) values → Holds IsHere (input_at position values)
+unfolding IsHere
 input_holds position values below are =
-    holds_then (λ n. n ≤ 3) IsPort position (λ p. option_map (λ v. Above (record { position = p; values = v })) values) below
-    (λ p within. holds_map (λ v. All IsValue v) IsPort values (λ v. Above (record { position = p; values = v })) are (λ v held. (within, held)))
+    holds_then (λ n. n ≤ 3) IsHere position (λ p. option_map (λ v. Above (record { position = p; values = v })) values) below
+    (λ p within. holds_map (λ v. All IsValue v) IsHere values (λ v. Above (record { position = p; values = v })) are (λ v held. (within, held)))
 
-output_holds : (kind : OutKind) (position : Option ℕ) (values : Option (List ℤ)) → Holds (λ n. n ≤ 3) position → Holds IsPort (output_at kind position values)
-unfolding IsPort
+output_holds : (kind : OutKind) (position : Option ℕ) (values : Option (List ℤ)) → Holds (λ n. n ≤ 3) position → Holds IsHere (output_at kind position values)
+unfolding IsHere
 output_holds kind position values below =
-    holds_then (λ n. n ≤ 3) IsPort position (λ p. option_map (λ v. Below (record { position = p; kind = kind; expected = v })) values) below
-    (λ p within. holds_map (λ _. Unit {0}) IsPort values (λ v. Below (record { position = p; kind = kind; expected = v })) (any_holds values) (λ v _. within))
+    holds_then (λ n. n ≤ 3) IsHere position (λ p. option_map (λ v. Below (record { position = p; kind = kind; expected = v })) values) below
+    (λ p within. holds_map (λ _. Unit {0}) IsHere values (λ v. Below (record { position = p; kind = kind; expected = v })) (any_holds values) (λ v _. within))
 
-port_holds : (words : Words) → Holds IsPort (port_of words)
-port_holds [] = none_holds IsPort
-port_holds (name ∷ []) = none_holds IsPort
+port_holds : (words : Words) → Holds IsHere (port_of words)
+port_holds [] = none_holds IsHere
+port_holds (name ∷ []) = none_holds IsHere
 port_holds (name ∷ position ∷ words) =
-    choice_holds IsPort _ _ _ (λ _. input_holds (number_of 3 position) (values_of words) (number_holds 3 position) (values_hold words))
-    (choice_holds IsPort _ _ _ (λ _. output_holds Stream (number_of 3 position) (values_of words) (number_holds 3 position))
-    (choice_holds IsPort _ _ _ (λ _. output_holds Image (number_of 3 position) (image_of words) (number_holds 3 position)) (none_holds IsPort)))
+    choice_holds IsHere _ _ _ (λ _. input_holds (number_of 3 position) (values_of words) (number_holds 3 position) (values_hold words))
+    (choice_holds IsHere _ _ _ (λ _. output_holds Stream (number_of 3 position) (values_of words) (number_holds 3 position))
+    (choice_holds IsHere _ _ _ (λ _. output_holds Image (number_of 3 position) (image_of words) (number_holds 3 position)) (none_holds IsHere)))
 
 -- ---- one more port
 
--- a position at which none stands differs from those of the others
-fresh_input : (inputs : List Input) (input : Input) → has_input inputs input.position ≡ false → (k : ℕ) (d : Input) → k < length inputs → (get_or inputs k d).position ≢ input.position
-fresh_input inputs input free k d within same = let taken = list_any_at (λ (i : Input). i.position == input.position) inputs k d within (eq-eqb _ _ same) in absurd cc
+-- a position up to 3 is one of the four columns
+on_columns : (port : Port) {tiles : Tiles} → AreTiles tiles.shape tiles.kinds → IsHere port → IsPort tiles.shape.columns port
+unfolding IsHere
+on_columns (Above input) are holds = (omega (arith, are.allowed.0, holds.0), holds.1)
+on_columns (Below output) are holds = omega (arith, are.allowed.0, holds)
 
-fresh_output : (outputs : List Output) (output : Output) → has_output outputs output.position ≡ false → (k : ℕ) (d : Output) → k < length outputs → (get_or outputs k d).position ≢ output.position
-fresh_output outputs output free k d within same = let taken = list_any_at (λ (o : Output). o.position == output.position) outputs k d within (eq-eqb _ _ same) in absurd cc
-
-one_more : (puzzle : Puzzle) (port : Port) → IsPuzzle puzzle → IsPort port → is_taken puzzle port ≡ false → IsPuzzle (with_port puzzle port)
-unfolding IsPort
-one_more puzzle (Above input) is holds free =
-    record {
-      tiles = is.tiles;
-      inputs_below = All-push (λ (i : Input). i.position < puzzle.tiles.shape.columns) puzzle.inputs input is.inputs_below (omega (arith, is.tiles.allowed.0, holds.0));
-      outputs_below = is.outputs_below;
-      inputs_distinct = all_pairs_push (λ (a b : Input). a.position ≢ b.position) puzzle.inputs input is.inputs_distinct (fresh_input puzzle.inputs input free);
-      outputs_distinct = is.outputs_distinct;
-      values = All-push (λ (i : Input). All IsValue i.values) puzzle.inputs input is.values holds.1;
-    }
-one_more puzzle (Below output) is holds free =
-    record {
-      tiles = is.tiles;
-      inputs_below = is.inputs_below;
-      outputs_below = All-push (λ (o : Output). o.position < puzzle.tiles.shape.columns) puzzle.outputs output is.outputs_below (omega (arith, is.tiles.allowed.0, holds));
-      inputs_distinct = is.inputs_distinct;
-      outputs_distinct = all_pairs_push (λ (a b : Output). a.position ≢ b.position) puzzle.outputs output is.outputs_distinct (fresh_output puzzle.outputs output free);
-      values = is.values;
-    }
-
-line_gets : (puzzle : Puzzle) (number : ℕ) (port : Option Port) → IsPuzzle puzzle → Holds IsPort port → Gets IsPuzzle (with_line puzzle number port)
+line_gets : (puzzle : Puzzle) (number : ℕ) (port : Option Port) → IsPuzzle puzzle → Holds IsHere port → Gets IsPuzzle (with_line puzzle number port)
 unfolding Holds Gets
 line_gets puzzle number None is holds = tt
 line_gets puzzle number (Some port) is holds =
     elim (is_taken puzzle port) as (λ b. is_taken puzzle port ≡ b → Gets IsPuzzle (cond b (Err (SamePlace number)) (Ok (with_port puzzle port)))) [
       | true ↦ λ _. tt
-      | false ↦ λ free. one_more puzzle port is holds free
+      | false ↦ λ free. ports_make_puzzles puzzle port is (on_columns port is.tiles holds) free
     ] refl
 
 goes_on_gets : (read : Result Puzzle Refusal) (next : Puzzle → Result Puzzle Refusal) → Gets IsPuzzle read → ((puzzle : Puzzle) → IsPuzzle puzzle → Gets IsPuzzle (next puzzle)) → Gets IsPuzzle (goes_on read next)
@@ -196,22 +174,10 @@ tiles_hold (a ∷ b ∷ c ∷ []) = none_holds (λ (kinds : List TileKind). leng
 tiles_hold (name ∷ first ∷ second ∷ third ∷ []) = choice_holds (λ kinds. length kinds ≡ 12) _ (rows_of first second third) None (λ _. rows_hold first second third) (none_holds (λ kinds. length kinds ≡ 12))
 tiles_hold (a ∷ b ∷ c ∷ d ∷ e ∷ words) = none_holds (λ (kinds : List TileKind). length kinds ≡ 12)
 
--- tiles without a port are a puzzle
-bare_is : (kinds : List TileKind) → length kinds ≡ 12 → IsPuzzle (bare kinds)
-bare_is kinds is =
-    record {
-      tiles = record { allowed = (refl, refl); filled = is };
-      inputs_below = All-nil (λ (input : Input). input.position < 4);
-      outputs_below = All-nil (λ (output : Output). output.position < 4);
-      inputs_distinct = λ i j d first within. absurd (omega arith);
-      outputs_distinct = λ i j d first within. absurd (omega arith);
-      values = All-nil (λ (input : Input). All IsValue input.values);
-    }
-
 tiles_get : (number : ℕ) (kinds : Option (List TileKind)) (lines : List NonBlank) → Holds (λ k. length k ≡ 12) kinds → Gets IsPuzzle (tiles_line number kinds lines)
 unfolding Holds Gets
 tiles_get number None lines holds = tt
-tiles_get number (Some kinds) lines holds = lines_get lines (bare kinds) (bare_is kinds holds)
+tiles_get number (Some kinds) lines holds = lines_get lines (bare kinds) (bare_are_puzzles kinds holds)
 
 -- ---- the whole text
 

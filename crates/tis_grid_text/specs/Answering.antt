@@ -7,12 +7,12 @@ use Rattle.tis_base.specs.declared.values.Values.{Values}
 use Rattle.std.specs.declared.vec.Vec.{Vec}
 use Rattle.tis_grid.specs.declared.event.Event.{Event}
 use Rattle.tis_grid.specs.declared.puzzle.Puzzle as held
-use Rattle.tis_grid.specs.Puzzle.{Puzzle, puzzle_of}
+use Rattle.tis_grid.specs.Puzzle.{Puzzle, Port, puzzle_of}
 use Rattle.tis_grid_text.specs.declared.error.EventsError.{EventsError}
 use Rattle.tis_grid_text.specs.declared.error.EventsError.TheVariants as event
 use Rattle.tis_grid_text.specs.declared.error.GridTextError.{GridTextError}
 use Rattle.tis_grid_text.specs.declared.error.GridTextError.TheVariants as grid
-use Rattle.tis_grid_text.specs.GridText.{Refusal, BadLine, SamePlace, Port, with_line, with_lines, grid_lines}
+use Rattle.tis_grid_text.specs.GridText.{Refusal, BadLine, SamePlace, with_line, with_lines, grid_lines}
 
 -- the number of a line is that of the first wrong one; want of memory says nothing
 abbrev pub RefusesEvents : EventsError → Result (List Event) ℕ → Type 0

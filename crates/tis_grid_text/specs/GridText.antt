@@ -1,6 +1,5 @@
 -- The text of a grid.
-use Rattle.std.specs.Prelude.{ℕ, ◌+◌, ℤ, pos, negsuc, Bool, false, ◌&&◌, List, [], ◌∷◌, ◌++◌, length, replicate, Option, Some, None, option_map, option_and_then, Result, Ok, Err, codes, ◌==◌, if◌then◌else◌, nat_le}
-use Rattle.std.specs.List.{list_all}
+use Rattle.std.specs.Prelude.{ℕ, ◌+◌, ℤ, pos, Bool, false, ◌&&◌, List, [], ◌∷◌, ◌++◌, length, replicate, Option, Some, None, option_map, option_and_then, Result, Ok, Err, codes, ◌==◌, if◌then◌else◌}
 use Rattle.std.specs.Str.{bytes_eq}
 use Rattle.tis_base.specs.Lines.{text_lines}
 use Rattle.tis_base.specs.declared.tiles.TileKind.{TileKind}
@@ -11,7 +10,7 @@ use Rattle.tis_words.specs.Lines.{NonBlank, non_blank_lines}
 use Rattle.tis_words.specs.Numerals.{number_of, value_of}
 use Rattle.tis_grid.specs.declared.puzzle.OutKind.{OutKind}
 use Rattle.tis_grid.specs.declared.puzzle.OutKind.TheVariants.{Stream, Image}
-use Rattle.tis_grid.specs.Puzzle.{Puzzle, Input, Output, has_input, has_output}
+use Rattle.tis_grid.specs.Puzzle.{Puzzle, Port, Above, Below, is_taken, with_port, bare, is_picture}
 
 -- why a text is no grid: the form of a line is wrong, or a position on its side is taken
 pub data Refusal : Type 0 where
@@ -52,14 +51,9 @@ abbrev pub values_of : Words → Option (List ℤ)
 values_of [] = Some []
 values_of (word ∷ words) = option_and_then (λ value. option_map (λ values. value ∷ values) (values_of words)) (value_of word)
 
--- whether a value is a colour, from 0 to 4
-abbrev pub is_colour : ℤ → Bool
-is_colour (pos number) = nat_le number 4
-is_colour (negsuc number) = false
-
--- these values, where they are the colours of all 540 points of the console, row by row
-unfoldable pub picture_of : List ℤ → Option (List ℤ)
-picture_of values = if length values == 540 && list_all is_colour values then Some values else None
+-- these values, where they are a picture
+abbrev pub picture_of : List ℤ → Option (List ℤ)
+picture_of values = if is_picture values then Some values else None
 
 -- the black picture
 unfoldable pub black : List ℤ
@@ -72,11 +66,6 @@ shown (value ∷ values) = picture_of (value ∷ values)
 
 abbrev pub image_of : Words → Option (List ℤ)
 image_of words = option_and_then shown (values_of words)
-
--- an input above a column, or an output below one
-pub data Port : Type 0 where
-  Above : (input : Input) → Port
-  Below : (output : Output) → Port
 
 -- a port at the position that a word names, with these values
 abbrev pub input_at : Option ℕ → Option (List ℤ) → Option Port
@@ -99,16 +88,6 @@ port_of (name ∷ position ∷ words) = port_named name position words
 
 -- ---- the whole text
 
--- whether a port stands at this position on its side
-abbrev pub is_taken : Puzzle → Port → Bool
-is_taken puzzle (Above input) = has_input puzzle.inputs input.position
-is_taken puzzle (Below output) = has_output puzzle.outputs output.position
-
--- the puzzle with one more port
-abbrev pub with_port : Puzzle → Port → Puzzle
-with_port puzzle (Above input) = record puzzle { inputs = puzzle.inputs ++ input ∷ [] }
-with_port puzzle (Below output) = record puzzle { outputs = puzzle.outputs ++ output ∷ [] }
-
 -- the puzzle with the port of a line
 abbrev pub with_line : Puzzle → ℕ → Option Port → Result Puzzle Refusal
 with_line puzzle number None = Err (BadLine number)
@@ -123,10 +102,6 @@ goes_on (Err refusal) next = Err refusal
 abbrev pub with_lines : Puzzle → List NonBlank → Result Puzzle Refusal
 with_lines puzzle [] = Ok puzzle
 with_lines puzzle (line ∷ lines) = goes_on (with_line puzzle line.number (port_of line.words)) (λ more. with_lines more lines)
-
--- tiles without a port
-abbrev pub bare : List TileKind → Puzzle
-bare kinds = record { tiles = record { shape = record { columns = 4; rows = 3 }; kinds = kinds }; inputs = []; outputs = [] }
 
 -- the line of the tiles, and those of the ports behind it
 abbrev pub tiles_line : ℕ → Option (List TileKind) → List NonBlank → Result Puzzle Refusal

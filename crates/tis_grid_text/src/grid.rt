@@ -1,17 +1,16 @@
 //! The text of a grid.
-ghost use Rattle.std.specs.Prelude.{◌≡◌, ◌++◌, map, length, option_map, Some, IfSome, IfOk};
-ghost use Rattle.std.specs.List.{list_all};
+ghost use Rattle.std.specs.Prelude.{◌≡◌, ◌++◌, length, option_map, Some, IfSome, IfOk};
 ghost use Rattle.tis_base.specs.Answers.{Gives};
 ghost use Rattle.tis_words.specs.Words.{words_in};
 ghost use Rattle.tis_words.specs.Numerals.{number_of as spelled_number};
-ghost use Rattle.tis_grid.specs.Puzzle.{IsPuzzle, puzzle_of, has_input, has_output, input_of, output_of};
-ghost use Rattle.tis_grid_text.specs.GridText.{is_head, kind_of, row_of, tiles_of, bare, values_of, is_colour, black, shown, image_of, input_at, output_at, port_of, grid_of};
+ghost use Rattle.tis_grid.specs.Puzzle.{IsPuzzle, puzzle_of, bare};
+ghost use Rattle.tis_grid_text.specs.GridText.{is_head, kind_of, row_of, tiles_of, values_of, black, shown, image_of, input_at, output_at, port_of, grid_of};
 ghost use Rattle.tis_grid_text.specs.Answering.{AnswersGrid, AddsLine, GivesSome, ReadsHead};
 
 use crate::error::GridTextError;
 use std::alloc::Global;
 use tis_base::{NoMemory, Shape, TileKind, Tiles, Value, Values};
-use tis_grid::{InputAt, OutKind, OutputAt, Puzzle};
+use tis_grid::{InputAt, OutKind, OutputAt, Puzzle, is_picture};
 use tis_words::{Comments, NonBlankLines, Words, is, line_count, number_of, value_of};
 
 // How many points an image has.
@@ -85,26 +84,6 @@ fn position(word: &[u8]) -> Option<u8>
     }
 }
 
-// Whether a value is a colour.
-fn is_shown(value: Value) -> bool
-    ensures { result ≡ is_colour value }
-{
-    let number = value.get();
-    0 <= number && number <= 4
-}
-
-// Whether each value is a colour.
-fn all_shown(values: &Values) -> bool
-    ensures { result ≡ list_all is_colour values.now.items }
-{
-    for index in 0..values.len() {
-        if !is_shown(values.at(index)) {
-            return false;
-        }
-    }
-    true
-}
-
 // The black picture.
 fn no_colours(alloc: Global) -> Result<Values, NoMemory>
     ensures { Gives (λ v. v.items) result black }
@@ -117,17 +96,13 @@ fn no_colours(alloc: Global) -> Result<Values, NoMemory>
 }
 
 // What an image shows that is wanted with these values.
-#[tactic(auto, unfolding(crate::specs::GridText::picture_of))]
 fn image(alloc: Global, values: Values) -> Result<Option<Values>, NoMemory>
     ensures { GivesSome result (shown values.items) }
 {
     if values.is_empty() {
         return Ok(Some(no_colours(alloc)?));
     }
-    if values.len() != POINTS {
-        return Ok(None);
-    }
-    if all_shown(&values) {
+    if is_picture(&values) {
         Ok(Some(values))
     } else {
         Ok(None)
@@ -141,34 +116,6 @@ fn read_image(alloc: Global, words: Words<'_>) -> Result<Option<Values>, NoMemor
     match read_values(alloc, words)? {
         Some(values) => image(alloc, values),
         None => Ok(None),
-    }
-}
-
-// Whether an input stands at a position.
-fn input_stands(inputs: &[InputAt], position: u8) -> bool
-    ensures { result ≡ has_input (map input_of inputs.now) position }
-{
-    match inputs {
-        [] => false,
-        [first, others @ ..] => {
-            let here = first.position == position;
-            let there = input_stands(others, position);
-            here || there
-        }
-    }
-}
-
-// Whether an output stands at a position.
-fn output_stands(outputs: &[OutputAt], position: u8) -> bool
-    ensures { result ≡ has_output (map output_of outputs.now) position }
-{
-    match outputs {
-        [] => false,
-        [first, others @ ..] => {
-            let here = first.position == position;
-            let there = output_stands(others, position);
-            here || there
-        }
     }
 }
 
@@ -187,7 +134,7 @@ fn add_input(
     let Some(values) = values else {
         return Err(GridTextError::BadLine { line: number });
     };
-    if input_stands(&puzzle.inputs, position) {
+    if puzzle.has_input(position) {
         return Err(GridTextError::SamePlace { line: number });
     }
     puzzle.inputs.push(InputAt { position, values })?;
@@ -210,7 +157,7 @@ fn add_output(
     let Some(expected) = expected else {
         return Err(GridTextError::BadLine { line: number });
     };
-    if output_stands(&puzzle.outputs, position) {
+    if puzzle.has_output(position) {
         return Err(GridTextError::SamePlace { line: number });
     }
     puzzle.outputs.push(OutputAt {

@@ -2,8 +2,8 @@ use Rattle.std.proofs.Common.{◌<◌, length, arith, sym, ap, ◌∙◌, pos}
 use Rattle.std.proofs.lemmas.Bool.{and_from}
 use Rattle.std.proofs.lemmas.List.Folds.{list_all_at, list_all_more}
 use Rattle.std.proofs.lemmas.Option.{get_or_from_slice_get}
-use Rattle.tis_grid_text.specs.GridText.{is_colour}
-use Rattle.tis_grid_text.proofs.grid.all_shown.Goals as goal
+use Rattle.tis_grid.specs.Puzzle.{is_colour}
+use Rattle.tis_grid.proofs.puzzle.all_shown.Goals as goal
 
 pub returns-then-not-is_shown : goal.returns-then-not-is_shown
 returns-then-not-is_shown c =
