@@ -1,5 +1,5 @@
 -- What contracts see of plain values: the plain data of what a call gives.
-use Rattle.std.specs.Prelude.{ℕ, List, [], ◌∷◌}
+use Rattle.std.specs.Prelude.{ℕ, ℤ, Bool, true, false, List, [], ◌∷◌, Option, Some, None}
 use Rattle.lua_machine.specs.Answer.{PlainValue, PlainNil, PlainTruth, PlainNumber, PlainText, PlainList, Deep, PlainValues, no_values, ◌and◌}
 use Rattle.lua_plain.specs.declared.plain.Plain as held
 use Rattle.lua_plain.specs.declared.plain.Plain.TheOpen as level
@@ -10,6 +10,20 @@ use Rattle.lua_plain.specs.declared.plain.Plains as held_list
 abbrev pub values_of : PlainValues → List PlainValue
 values_of no_values = []
 values_of (value and others) = value ∷ values_of others
+
+-- the number, where a value is one; a truth value is none
+abbrev pub number_in : PlainValue → Option ℤ
+number_in (PlainNumber number) = Some number
+number_in _ = None
+
+abbrev pub is_text : PlainValue → Bool
+is_text (PlainText bytes) = true
+is_text _ = false
+
+-- the values, where a value is a list; one that lies too deep is none
+abbrev pub list_in : PlainValue → Option (List PlainValue)
+list_in (PlainList values) = Some (values_of values)
+list_in _ = None
 
 -- the plain values of a list
 abbrev pub values_with : List PlainValue → PlainValues

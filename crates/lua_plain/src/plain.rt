@@ -1,7 +1,7 @@
 //! Values without tables.
-ghost use Rattle.std.specs.Prelude.{◌≡◌, ◌<◌, Some, OnOk, OnErr, length, slice_get, option_map};
+ghost use Rattle.std.specs.Prelude.{◌≡◌, ◌<◌, Some, OnOk, OnErr, length, map, slice_get, option_map};
 ghost use Rattle.lua_machine.specs.Answer.{no_values};
-ghost use Rattle.lua_plain.specs.Plain.{plain_view, plains_view, values_of, with_last};
+ghost use Rattle.lua_plain.specs.Plain.{is_text, list_in, number_in, plain_view, plains_view, values_of, with_last};
 
 use lua_tree::Text;
 use sqlite_items::Items;
@@ -33,6 +33,35 @@ pub struct Plains {
     pub(crate) values: Items<Plain>,
 }
 
+impl Plain {
+    /// The number, where it is one.
+    pub fn as_number(&self) -> Option<i64>
+        ensures { result ≡ number_in (plain_view self.now) }
+    {
+        match self {
+            Plain::Number(number) => Some(*number),
+            _ => None,
+        }
+    }
+
+    /// Whether it is a text.
+    pub fn is_text(&self) -> bool
+        ensures { result ≡ is_text (plain_view self.now) }
+    {
+        matches!(self, Plain::Text(_))
+    }
+
+    /// The values, where it is a list that isn't too deep.
+    pub fn as_list(&self) -> Option<&Plains>
+        ensures { option_map (λ list. values_of (plains_view list.now)) result ≡ list_in (plain_view self.now) }
+    {
+        match self {
+            Plain::List(list) => Some(list),
+            _ => None,
+        }
+    }
+}
+
 impl Plains {
     /// No values. It takes no memory.
     pub fn new(alloc: Global) -> Plains
@@ -57,6 +86,13 @@ impl Plains {
         ensures { result ≡ length (values_of (plains_view self.now)) }
     {
         self.values.len()
+    }
+
+    /// The values, in order.
+    pub fn as_slice(&self) -> &[Plain]
+        ensures { map plain_view result.now ≡ values_of (plains_view self.now) }
+    {
+        self.values.as_slice()
     }
 
     /// The value at an index from 0 on.

@@ -1,5 +1,5 @@
 -- Puzzles as contracts see them: records, lists and numbers.
-use Rattle.std.specs.Prelude.{◌≢◌, ℕ, ◌<◌, ℤ, pos, negsuc, Bool, false, ◌&&◌, List, [], ◌∷◌, ◌++◌, length, map, All, AllPairs, IsTrue, ◌==◌, nat_le, if◌then◌else◌}
+use Rattle.std.specs.Prelude.{◌≢◌, ℕ, ◌<◌, ℤ, pos, negsuc, Bool, false, ◌&&◌, List, [], ◌∷◌, ◌++◌, length, Option, option_map, option_and_then, map, All, AllPairs, IsTrue, ◌==◌, nat_le, if◌then◌else◌}
 use Rattle.std.specs.List.{list_all, list_any}
 use Rattle.tis_base.specs.Saturation.{IsValue}
 use Rattle.tis_base.specs.Tiles.{Tiles, AreTiles}
@@ -69,6 +69,13 @@ HasOutput outputs position = IsTrue (has_output outputs position)
 pub data Port : Type 0 where
   Above : (input : Input) → Port
   Below : (output : Output) → Port
+
+-- a port at this position, with these values, where both are there
+abbrev pub input_at : Option ℕ → Option (List ℤ) → Option Port
+input_at position values = option_and_then (λ p. option_map (λ v. Above (record { position = p; values = v })) values) position
+
+abbrev pub output_at : OutKind → Option ℕ → Option (List ℤ) → Option Port
+output_at kind position values = option_and_then (λ p. option_map (λ v. Below (record { position = p; kind = kind; expected = v })) values) position
 
 -- a port at one of these columns; what comes in are values of the machine
 abbrev pub IsPort : ℕ → Port → Type 0

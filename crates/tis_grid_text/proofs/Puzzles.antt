@@ -14,9 +14,9 @@ use Rattle.tis_words.specs.Numerals.{number_of, value_of, at_most, spelled}
 use Rattle.tis_grid.specs.declared.puzzle.OutKind.{OutKind}
 use Rattle.tis_grid.specs.declared.puzzle.OutKind.TheVariants.{Stream, Image}
 use Rattle.tis_base.specs.Tiles.{Tiles, AreTiles}
-use Rattle.tis_grid.specs.Puzzle.{Puzzle, IsPuzzle, Port, Above, Below, IsPort, is_taken, with_port, bare}
+use Rattle.tis_grid.specs.Puzzle.{Puzzle, IsPuzzle, Port, Above, Below, input_at, output_at, IsPort, is_taken, with_port, bare}
 use Rattle.tis_grid.proofs.PuzzlePorts.{bare_are_puzzles, ports_make_puzzles}
-use Rattle.tis_grid_text.specs.GridText.{Refusal, BadLine, SamePlace, is_head, kind_of, kinds_of, row_of, rows_of, tiles_of, values_of, image_of, input_at, output_at, port_of, with_line, goes_on, with_lines, tiles_line, behind_head, grid_lines, grid_of}
+use Rattle.tis_grid_text.specs.GridText.{Refusal, BadLine, SamePlace, is_head, kind_of, kinds_of, row_of, rows_of, tiles_of, values_of, image_of, port_of, with_line, goes_on, with_lines, tiles_line, behind_head, grid_lines, grid_of}
 use Rattle.tis_grid_text.specs.Soundness.{GridsArePuzzles}
 
 -- ---- what holds of what is read

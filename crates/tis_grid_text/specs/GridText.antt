@@ -10,7 +10,7 @@ use Rattle.tis_words.specs.Lines.{NonBlank, non_blank_lines}
 use Rattle.tis_words.specs.Numerals.{number_of, value_of}
 use Rattle.tis_grid.specs.declared.puzzle.OutKind.{OutKind}
 use Rattle.tis_grid.specs.declared.puzzle.OutKind.TheVariants.{Stream, Image}
-use Rattle.tis_grid.specs.Puzzle.{Puzzle, Port, Above, Below, is_taken, with_port, bare, is_picture}
+use Rattle.tis_grid.specs.Puzzle.{Puzzle, Port, input_at, output_at, is_taken, with_port, bare, is_picture}
 
 -- why a text is no grid: the form of a line is wrong, or a position on its side is taken
 pub data Refusal : Type 0 where
@@ -66,13 +66,6 @@ shown (value ∷ values) = picture_of (value ∷ values)
 
 abbrev pub image_of : Words → Option (List ℤ)
 image_of words = option_and_then shown (values_of words)
-
--- a port at the position that a word names, with these values
-abbrev pub input_at : Option ℕ → Option (List ℤ) → Option Port
-input_at position values = option_and_then (λ p. option_map (λ v. Above (record { position = p; values = v })) values) position
-
-abbrev pub output_at : OutKind → Option ℕ → Option (List ℤ) → Option Port
-output_at kind position values = option_and_then (λ p. option_map (λ v. Below (record { position = p; kind = kind; expected = v })) values) position
 
 -- the port of the line that begins with this word
 abbrev pub port_named : List ℕ → List ℕ → Words → Option Port

@@ -3,8 +3,8 @@ ghost use Rattle.std.specs.Prelude.{◌≡◌, ◌++◌, length, option_map, Som
 ghost use Rattle.tis_base.specs.Answers.{Gives};
 ghost use Rattle.tis_words.specs.Words.{words_in};
 ghost use Rattle.tis_words.specs.Numerals.{number_of as spelled_number};
-ghost use Rattle.tis_grid.specs.Puzzle.{IsPuzzle, puzzle_of, bare};
-ghost use Rattle.tis_grid_text.specs.GridText.{is_head, kind_of, row_of, tiles_of, values_of, black, shown, image_of, input_at, output_at, port_of, grid_of};
+ghost use Rattle.tis_grid.specs.Puzzle.{IsPuzzle, puzzle_of, bare, input_at, output_at};
+ghost use Rattle.tis_grid_text.specs.GridText.{is_head, kind_of, row_of, tiles_of, values_of, black, shown, image_of, port_of, grid_of};
 ghost use Rattle.tis_grid_text.specs.Answering.{AnswersGrid, AddsLine, GivesSome, ReadsHead};
 
 use crate::error::GridTextError;
