@@ -24,3 +24,4 @@ pub mod Frames
 mod Intended
 pub mod Returning
 pub mod PuzzlePorts
+pub mod Holding

@@ -1,13 +1,14 @@
 -- A puzzle port by port.
-use Rattle.std.proofs.Common.{◌≡◌, ◌≢◌, ℕ, ◌<◌, false, List, length, get_or, refl, arith}
-use Rattle.std.specs.Prelude.{All, ◌==◌}
+use Rattle.std.proofs.Common.{◌≡◌, ◌≢◌, ℕ, ◌<◌, ℤ, false, List, length, get_or, Option, refl, sym, subst, arith}
+use Rattle.std.specs.Prelude.{All, ◌==◌, option_map}
 use Rattle.std.proofs.lemmas.Bool.{eq-eqb}
 use Rattle.std.proofs.lemmas.List.Elements.{All-nil, All-push}
 use Rattle.std.proofs.lemmas.List.Folds.{list_any_at}
 use Rattle.std.proofs.lemmas.List.Quantifiers.{all_pairs_push}
 use Rattle.tis_base.specs.Saturation.{IsValue}
-use Rattle.tis_base.specs.declared.tiles.TileKind.{TileKind}
-use Rattle.tis_grid.specs.Puzzle.{IsPuzzle, Input, Output, has_input, has_output, Port, Above, Below}
+use Rattle.tis_grid.specs.Puzzle.{Puzzle, IsPuzzle, Input, Output, has_input, has_output, Port, Above, Below, IsPort, is_taken, with_port, input_at, output_at}
+use Rattle.tis_grid.specs.declared.puzzle.OutKind.{OutKind}
+use Rattle.tis_grid.proofs.Holding.{Holds, holds_then, holds_map, any_holds}
 use Rattle.tis_grid.specs.Laws.{BareArePuzzles, PortsMakePuzzles}
 
 -- a position at which none stands differs from those of the others
@@ -49,3 +50,21 @@ bare_are_puzzles kinds is =
       outputs_distinct = λ i j d first within. absurd (omega arith);
       values = All-nil (λ (input : Input). All IsValue input.values);
     }
+
+-- ---- ports that are told
+
+-- an input at one of four columns
+pub input_holds : (position : Option ℕ) (values : Option (List ℤ)) → Holds (λ n. n < 4) position → Holds (λ v. All IsValue v) values → Holds (IsPort 4) (input_at position values)
+input_holds position values below are =
+    holds_then (λ n. n < 4) (IsPort 4) position (λ p. option_map (λ v. Above (record { position = p; values = v })) values) below
+    (λ p within. holds_map (λ v. All IsValue v) (IsPort 4) values (λ v. Above (record { position = p; values = v })) are (λ v held. (within, held)))
+
+-- an output
+pub output_holds : (kind : OutKind) (position : Option ℕ) (values : Option (List ℤ)) → Holds (λ n. n < 4) position → Holds (IsPort 4) (output_at kind position values)
+output_holds kind position values below =
+    holds_then (λ n. n < 4) (IsPort 4) position (λ p. option_map (λ v. Below (record { position = p; kind = kind; expected = v })) values) below
+    (λ p within. holds_map (λ _. Unit {0}) (IsPort 4) values (λ v. Below (record { position = p; kind = kind; expected = v })) (any_holds values) (λ v _. within))
+
+-- a puzzle with a port at one of four columns
+pub port_makes_puzzle : (puzzle : Puzzle) (port : Port) → IsPuzzle puzzle → IsPort 4 port → is_taken puzzle port ≡ false → IsPuzzle (with_port puzzle port)
+port_makes_puzzle puzzle port is holds free = ports_make_puzzles puzzle port is (subst (λ (columns : ℕ). IsPort columns port) (sym is.tiles.allowed.0) holds) free

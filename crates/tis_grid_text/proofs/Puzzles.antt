@@ -1,6 +1,6 @@
 -- What a grid's text gives is a puzzle.
-use Rattle.std.proofs.Common.{◌≡◌, ℕ, suc, ◌+◌, ◌≤◌, ℤ, pos, true, false, cond, List, [], ◌∷◌, ◌++◌, length, Option, Some, None, Result, Ok, Err, refl, ap, ◌∙◌, subst, arith, length-append, neg_ℤ}
-use Rattle.std.specs.Prelude.{Bool, All, ◌==◌, nat_le, option_map, option_and_then}
+use Rattle.std.proofs.Common.{◌≡◌, ℕ, suc, ◌+◌, ◌<◌, ◌≤◌, pos, true, false, cond, List, [], ◌∷◌, ◌++◌, length, Option, Some, None, Result, Ok, Err, refl, ap, ◌∙◌, subst, arith, length-append, neg_ℤ}
+use Rattle.std.specs.Prelude.{All, ◌==◌, nat_le, option_map}
 use Rattle.std.proofs.lemmas.Bool.{leb-true, eqb-true}
 use Rattle.std.proofs.lemmas.Int.{ints}
 use Rattle.std.proofs.lemmas.List.Elements.{All-nil, All-cons}
@@ -11,53 +11,19 @@ use Rattle.tis_words.specs.declared.comments.Comments.TheVariants.{BehindHash}
 use Rattle.tis_words.specs.Words.{Words}
 use Rattle.tis_words.specs.Lines.{NonBlank, non_blank_lines}
 use Rattle.tis_words.specs.Numerals.{number_of, value_of, at_most, spelled}
-use Rattle.tis_grid.specs.declared.puzzle.OutKind.{OutKind}
 use Rattle.tis_grid.specs.declared.puzzle.OutKind.TheVariants.{Stream, Image}
-use Rattle.tis_base.specs.Tiles.{Tiles, AreTiles}
-use Rattle.tis_grid.specs.Puzzle.{Puzzle, IsPuzzle, Port, Above, Below, input_at, output_at, IsPort, is_taken, with_port, bare}
-use Rattle.tis_grid.proofs.PuzzlePorts.{bare_are_puzzles, ports_make_puzzles}
+use Rattle.tis_grid.specs.Puzzle.{Puzzle, IsPuzzle, Port, IsPort, is_taken, with_port, bare}
+use Rattle.tis_grid.proofs.PuzzlePorts.{bare_are_puzzles, port_makes_puzzle, input_holds, output_holds}
+use Rattle.tis_grid.proofs.Holding.{Holds, holds_then, holds_map, choice_holds, some_holds, none_holds, any_holds, holds_more}
 use Rattle.tis_grid_text.specs.GridText.{Refusal, BadLine, SamePlace, is_head, kind_of, kinds_of, row_of, rows_of, tiles_of, values_of, image_of, port_of, with_line, goes_on, with_lines, tiles_line, behind_head, grid_lines, grid_of}
 use Rattle.tis_grid_text.specs.Soundness.{GridsArePuzzles}
 
 -- ---- what holds of what is read
 
--- a fact of the value, where there is one
-Holds : {X : Type 0} → (X → Type 0) → Option X → Type 0
-Holds P None = Unit {0}
-Holds P (Some x) = P x
-
 -- and of the puzzle, where it isn't refused
 Gets : (Puzzle → Type 0) → Result Puzzle Refusal → Type 0
 Gets P (Ok puzzle) = P puzzle
 Gets P (Err refusal) = Unit {0}
-
-holds_then : {X Y : Type 0} (P : X → Type 0) (Q : Y → Type 0) (read : Option X) (next : X → Option Y) → Holds P read → ((x : X) → P x → Holds Q (next x)) → Holds Q (option_and_then next read)
-unfolding Holds
-holds_then P Q None next holds follows = tt
-holds_then P Q (Some x) next holds follows = follows x holds
-
-holds_map : {X Y : Type 0} (P : X → Type 0) (Q : Y → Type 0) (read : Option X) (f : X → Y) → Holds P read → ((x : X) → P x → Q (f x)) → Holds Q (option_map f read)
-unfolding Holds
-holds_map P Q None f holds follows = tt
-holds_map P Q (Some x) f holds follows = follows x holds
-
-choice_holds : {X : Type 0} (P : X → Type 0) (test : Bool) (x y : Option X) → (test ≡ true → Holds P x) → Holds P y → Holds P (cond test x y)
-choice_holds P true x y first second = first refl
-choice_holds P false x y first second = second
-
-some_holds : {X : Type 0} (P : X → Type 0) (x : X) → P x → Holds P (Some x)
-unfolding Holds
-some_holds P x holds = holds
-
-none_holds : {X : Type 0} (P : X → Type 0) → Holds P None
-unfolding Holds
-none_holds P = tt
-
--- nothing is said
-any_holds : {X : Type 0} (read : Option X) → Holds (λ _. Unit {0}) read
-unfolding Holds
-any_holds None = tt
-any_holds (Some x) = tt
 
 -- ---- numbers and values
 
@@ -65,6 +31,9 @@ any_holds (Some x) = tt
 number_holds : (most : ℕ) (word : List ℕ) → Holds (λ n. n ≤ most) (number_of most word)
 unfolding number_of
 number_holds most word = holds_then (λ _. Unit {0}) (λ n. n ≤ most) (spelled word) (at_most most) (any_holds (spelled word)) (λ n _. choice_holds (λ m. m ≤ most) (nat_le n most) (Some n) None (λ is. some_holds (λ m. m ≤ most) n (leb-true n most is)) (none_holds (λ m. m ≤ most)))
+
+column_holds : (word : List ℕ) → Holds (λ n. n < 4) (number_of 3 word)
+column_holds word = holds_more (λ n. n ≤ 3) (λ n. n < 4) (number_of 3 word) (number_holds 3 word) (λ n few. omega (arith, few))
 
 negative : (n : ℕ) → n ≤ 999 → IsValue (neg_ℤ (pos n))
 negative n few = (omega (arith, ints), omega (arith, ints))
@@ -88,46 +57,23 @@ values_hold (word ∷ words) =
 
 -- ---- ports
 
--- a port stands at one of four columns, and what comes in are values
-IsHere : Port → Type 0
-IsHere (Above input) = (input.position ≤ 3) × All IsValue input.values
-IsHere (Below output) = output.position ≤ 3
-
-input_holds : (position : Option ℕ) (values : Option (List ℤ)) → Holds (λ n. n ≤ 3) position → Holds (λ v. All IsValue v) values → Holds IsHere (input_at position values)
-unfolding IsHere
-input_holds position values below are =
-    holds_then (λ n. n ≤ 3) IsHere position (λ p. option_map (λ v. Above (record { position = p; values = v })) values) below
-    (λ p within. holds_map (λ v. All IsValue v) IsHere values (λ v. Above (record { position = p; values = v })) are (λ v held. (within, held)))
-
-output_holds : (kind : OutKind) (position : Option ℕ) (values : Option (List ℤ)) → Holds (λ n. n ≤ 3) position → Holds IsHere (output_at kind position values)
-unfolding IsHere
-output_holds kind position values below =
-    holds_then (λ n. n ≤ 3) IsHere position (λ p. option_map (λ v. Below (record { position = p; kind = kind; expected = v })) values) below
-    (λ p within. holds_map (λ _. Unit {0}) IsHere values (λ v. Below (record { position = p; kind = kind; expected = v })) (any_holds values) (λ v _. within))
-
-port_holds : (words : Words) → Holds IsHere (port_of words)
-port_holds [] = none_holds IsHere
-port_holds (name ∷ []) = none_holds IsHere
+port_holds : (words : Words) → Holds (IsPort 4) (port_of words)
+port_holds [] = none_holds (IsPort 4)
+port_holds (name ∷ []) = none_holds (IsPort 4)
 port_holds (name ∷ position ∷ words) =
-    choice_holds IsHere _ _ _ (λ _. input_holds (number_of 3 position) (values_of words) (number_holds 3 position) (values_hold words))
-    (choice_holds IsHere _ _ _ (λ _. output_holds Stream (number_of 3 position) (values_of words) (number_holds 3 position))
-    (choice_holds IsHere _ _ _ (λ _. output_holds Image (number_of 3 position) (image_of words) (number_holds 3 position)) (none_holds IsHere)))
+    choice_holds (IsPort 4) _ _ _ (λ _. input_holds (number_of 3 position) (values_of words) (column_holds position) (values_hold words))
+    (choice_holds (IsPort 4) _ _ _ (λ _. output_holds Stream (number_of 3 position) (values_of words) (column_holds position))
+    (choice_holds (IsPort 4) _ _ _ (λ _. output_holds Image (number_of 3 position) (image_of words) (column_holds position)) (none_holds (IsPort 4))))
 
 -- ---- one more port
 
--- a position up to 3 is one of the four columns
-on_columns : (port : Port) {tiles : Tiles} → AreTiles tiles.shape tiles.kinds → IsHere port → IsPort tiles.shape.columns port
-unfolding IsHere
-on_columns (Above input) are holds = (omega (arith, are.allowed.0, holds.0), holds.1)
-on_columns (Below output) are holds = omega (arith, are.allowed.0, holds)
-
-line_gets : (puzzle : Puzzle) (number : ℕ) (port : Option Port) → IsPuzzle puzzle → Holds IsHere port → Gets IsPuzzle (with_line puzzle number port)
+line_gets : (puzzle : Puzzle) (number : ℕ) (port : Option Port) → IsPuzzle puzzle → Holds (IsPort 4) port → Gets IsPuzzle (with_line puzzle number port)
 unfolding Holds Gets
 line_gets puzzle number None is holds = tt
 line_gets puzzle number (Some port) is holds =
     elim (is_taken puzzle port) as (λ b. is_taken puzzle port ≡ b → Gets IsPuzzle (cond b (Err (SamePlace number)) (Ok (with_port puzzle port)))) [
       | true ↦ λ _. tt
-      | false ↦ λ free. ports_make_puzzles puzzle port is (on_columns port is.tiles holds) free
+      | false ↦ λ free. port_makes_puzzle puzzle port is holds free
     ] refl
 
 goes_on_gets : (read : Result Puzzle Refusal) (next : Puzzle → Result Puzzle Refusal) → Gets IsPuzzle read → ((puzzle : Puzzle) → IsPuzzle puzzle → Gets IsPuzzle (next puzzle)) → Gets IsPuzzle (goes_on read next)
@@ -147,11 +93,6 @@ kinds_hold [] = some_holds (λ kinds. length kinds ≡ 0) [] refl
 kinds_hold (byte ∷ bytes) =
     holds_then (λ _. Unit {0}) (λ kinds. length kinds ≡ suc (length bytes)) (kind_of byte) (λ kind. option_map (λ kinds. kind ∷ kinds) (kinds_of bytes)) (any_holds (kind_of byte))
     (λ kind _. holds_map (λ kinds. length kinds ≡ length bytes) (λ kinds. length kinds ≡ suc (length bytes)) (kinds_of bytes) (λ kinds. kind ∷ kinds) (kinds_hold bytes) (λ kinds is. ap suc is))
-
-holds_more : {X : Type 0} (P Q : X → Type 0) (read : Option X) → Holds P read → ((x : X) → P x → Q x) → Holds Q read
-unfolding Holds
-holds_more P Q None holds follows = tt
-holds_more P Q (Some x) holds follows = follows x holds
 
 row_holds : (word : List ℕ) → Holds (λ kinds. length kinds ≡ 4) (row_of word)
 row_holds word =

@@ -8,7 +8,6 @@ use Rattle.tis_words.specs.declared.comments.Comments.TheVariants.{BehindHash}
 use Rattle.tis_words.specs.Words.{Words}
 use Rattle.tis_words.specs.Lines.{NonBlank, non_blank_lines}
 use Rattle.tis_words.specs.Numerals.{number_of, value_of}
-use Rattle.tis_grid.specs.declared.puzzle.OutKind.{OutKind}
 use Rattle.tis_grid.specs.declared.puzzle.OutKind.TheVariants.{Stream, Image}
 use Rattle.tis_grid.specs.Puzzle.{Puzzle, Port, input_at, output_at, is_taken, with_port, bare, is_picture}
 

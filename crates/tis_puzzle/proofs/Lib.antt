@@ -1,1 +1,2 @@
 mod FoundKinds
+mod EntryPuzzles
