@@ -1,7 +1,6 @@
 -- Kinds of tiles that are found one by one.
-use Rattle.std.proofs.Common.{◌≡◌, ℕ, suc, List, [], ◌∷◌, ◌++◌, map, Option, Some, Result, Ok, Err, refl, ap, ◌∙◌}
+use Rattle.std.proofs.Common.{ℕ, List, ◌++◌, Result, Ok, Err}
 use Rattle.tis_base.specs.declared.tiles.TileKind.{TileKind}
-use Rattle.tis_puzzle.specs.Layout.{with_kind}
 
 -- the kinds that were found, and those of the rest
 abbrev pub behind : List TileKind → Result (List TileKind) ℕ → Result (List TileKind) ℕ

@@ -1,5 +1,5 @@
 -- The ports of a specification: what the list that `get_streams` gives comes to, entry by entry.
-use Rattle.std.specs.Prelude.{ℕ, zero, suc, ℤ, pos, negsuc, Bool, ◌&&◌, List, [], ◌∷◌, length, replicate, Option, Some, None, option_map, option_and_then, Result, Ok, Err, nat_le, int_le, if◌then◌else◌}
+use Rattle.std.specs.Prelude.{ℕ, suc, ℤ, pos, negsuc, Bool, ◌&&◌, List, [], ◌∷◌, length, replicate, Option, Some, None, option_map, option_and_then, Result, Ok, Err, nat_le, int_le, if◌then◌else◌}
 use Rattle.std.specs.Ordering.{int_eq}
 use Rattle.tis_base.specs.declared.tiles.TileKind.TheVariants.{Damaged}
 use Rattle.tis_grid.specs.declared.puzzle.OutKind.TheVariants.{Stream, Image}

@@ -1,7 +1,7 @@
 //! The ports of a specification.
-ghost use Rattle.std.specs.Prelude.{◌≡◌, map, option_map, option_and_then};
+ghost use Rattle.std.specs.Prelude.{◌≡◌, map, option_map, option_and_then, IfOk};
 ghost use Rattle.lua_plain.specs.Plain.{plain_view};
-ghost use Rattle.tis_grid.specs.Puzzle.{puzzle_of, is_picture, input_at, output_at};
+ghost use Rattle.tis_grid.specs.Puzzle.{IsPuzzle, puzzle_of, is_picture, input_at, output_at};
 ghost use Rattle.tis_puzzle.specs.Answering.{AddsEntry, AnswersPorts, GivesSome};
 ghost use Rattle.tis_puzzle.specs.Entries.{column_in, column_of, is_short, value_in, values_of, values_in, only_if, port_of, port_with, ports_of, unknown, with_entry};
 
@@ -192,7 +192,8 @@ fn no_tiles() -> Tiles
 /// the 540 colours of an image. The first other entry is refused, or the first at a position that an earlier one on its
 /// side has.
 pub fn read_streams(alloc: Global, streams: &Plain) -> Result<Puzzle, PuzzleError>
-    ensures { AnswersPorts result (ports_of (plain_view streams.now)) }
+    ensures ports { AnswersPorts result (ports_of (plain_view streams.now)) }
+    ensures puzzle { IfOk result (λ read. IsPuzzle (puzzle_of read)) }
 {
     let Some(list) = streams.as_list() else {
         return Err(PuzzleError::BadStreams { index: 0 });
