@@ -1,4 +1,21 @@
-//! Puzzles of specifications.
+//! Puzzles from the plain values of a specification.
+//!
+//! A specification is a chunk of Lua whose function `get_streams` gives a list of streams, and `get_layout` a list of
+//! tiles. [`read_streams`] makes the ports of the first list, and [`read_layout`] the tiles of the second. The layers
+//! above rely on this: each answer is what `ports_of` of `specs/Entries.antt` and `layout_of` of `specs/Layout.antt` say,
+//! the first wrong entry or value is the one that is refused, and what is read are the ports of a puzzle, with
+//! different positions on each side.
+//!
+//! ```text
+//! let mut puzzle = read_streams(alloc, &streams)?;
+//! match read_layout(&layout) {
+//!     Ok(tiles) => puzzle.tiles = tiles,
+//!     Err(index) => return Err(PuzzleError::BadLayout { index }),
+//! }
+//! ```
+//!
+//! Each value is looked at once, and each value of a stream is held in two bytes. Nothing here evaluates a chunk or calls one: what
+//! the functions give has to be there.
 #![tactic(auto)]
 
 mod entries;
@@ -8,3 +25,6 @@ mod layout;
 pub use entries::read_streams;
 pub use error::PuzzleError;
 pub use layout::read_layout;
+
+#[cfg(test)]
+mod tests;
