@@ -1,2 +1,3 @@
 mod FoundKinds
 mod EntryPuzzles
+mod LuaPuzzles

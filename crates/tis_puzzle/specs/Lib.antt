@@ -1,3 +1,4 @@
 pub mod Entries
 pub mod Layout
+pub mod LuaPuzzle
 pub mod Answering

@@ -14,12 +14,17 @@
 //! }
 //! ```
 //!
-//! Each value is looked at once, and each value of a stream is held in two bytes. Nothing here evaluates a chunk or calls one: what
+//! `specs/LuaPuzzle.antt` says what the puzzle of a chunk and a seed is, or why it has none: a function that is missing, a call that
+//! fails, or a list that isn't what it has to be. `laws` says that there is one answer at most, and that a grid can be made
+//! of what is given.
+//!
+//! Each value is looked at once, and each value of a stream is held in two bytes. Nothing here evaluates a chunk yet: what
 //! the functions give has to be there.
 #![tactic(auto)]
 
 mod entries;
 mod error;
+pub mod laws;
 mod layout;
 
 pub use entries::read_streams;
