@@ -8,4 +8,4 @@ mod Growing
 mod FoundParts
 mod FoundExpressions
 mod FoundStatements
-mod Settling
+pub mod Settling

@@ -1,6 +1,7 @@
 -- Each turn pays, or leaves fewer that may pay nothing: so turns end, or come to have paid more than any number of units.
 use Rattle.std.proofs.Common.{◌≡◌, ℕ, zero, suc, ◌+◌, ◌≤◌, ◌<◌, ◌⊎◌, inl, inr, refl, sym, ◌↔◌, Bool, true, false, List, [], ◌∷◌, ◌++◌, length, subst, pos, Ok, Err, Result, arith}
-use Rattle.std.specs.Prelude.{Some, nat_lt}
+use Rattle.std.specs.Prelude.{Some, nat_le, nat_lt}
+use Rattle.std.proofs.lemmas.Bool.{leb-true, leb-false}
 use Rattle.lua_machine.specs.Tree as t
 use Rattle.lua_machine.specs.Tree.{Node, Nodes, none, ◌and◌, EntryNodes, StatementNode, BlockNode, ◌andthen◌, ArmNodes, ItemNode}
 use Rattle.lua_machine.specs.Value.{LuaValue, Number, Text, Fault, is_true, is_key}
@@ -10,7 +11,7 @@ use Rattle.lua_machine.specs.Operators.{decides}
 use Rattle.lua_machine.specs.Library.{math_result, table_result}
 use Rattle.lua_machine.specs.Functions.{Function, function_of}
 use Rattle.lua_machine.specs.Yields.{Gone, Way, Goes, Breaks, Returns, Fails, Bounds, indexed, with_member, unary_result, binary_result, floor_result, put, put_member, bounds_of, comes, next_turn, returned, most_calls}
-use Rattle.lua_machine.specs.Answer.{PlainValue, RunsOut, most_units}
+use Rattle.lua_machine.specs.Answer.{PlainValue, Answers, RunsOut, CallsComeToSomething, most_units}
 use Rattle.lua_machine.specs.Machine.{Making, Indexes, Selects, Unary, Binary, Calls, Math, Floors, Tables, Stores, Puts, PutsMember, Loops, Frame, Part, LeftSide, NextEntry, NamedEntry, Declares, Assigns, Drops, ReturnsIt, ArmTest, WhileTest, RepeatTest, Others, Inner, WhileBody, RepeatBody, ForBody, Caller, Items, Control, Evaluate, Execute, Back, Machine, Turned, Next, Ended}
 use Rattle.lua_machine.specs.Turn.{back_by, left, back, value_in, way_of, running, cut_to, choosing, turning_if, looping, entering, filling, keyed_if, keyed, made, begun, assigning, decided_if, arm_if, while_if, until_if, others_by, while_by, repeat_by, for_by, resumed, turn_at, turn, begins, after_turns, paid}
 use Rattle.lua_machine.specs.Turn.{evaluating, frames_weight, control_weight, unpaid_turns}
@@ -238,3 +239,26 @@ spent_turns_run_out chunk called seed main is = (
   λ h answer cost given. let ends = (turns_yield chunk called seed main answer cost is).0 given.0 in
       too_much most_units (paid (after_turns chunk main h.0 (begins chunk main seed))) cost h.1 (paid_on_the_way chunk main h.0 ends.0 (begins chunk main seed) answer cost ends.1) given.1,
 )
+
+-- ---- each call comes to something
+
+abbrev Comes : List ItemNode → List ℕ → ℕ → Type 0
+Comes chunk called seed = ((answer : Result PlainValue Fault) × (cost : ℕ) × Answers chunk called seed answer cost) ⊎ RunsOut chunk called seed
+
+within_or_past : (cost most : ℕ) → (cost ≤ most) ⊎ (most < cost)
+within_or_past cost most =
+    elim (nat_le cost most) as (λ b. nat_le cost most ≡ b → (cost ≤ most) ⊎ (most < cost)) [
+      | true ↦ λ is. inl (leb-true cost most is)
+      | false ↦ λ is. inr (leb-false cost most is)
+    ] refl
+
+comes_by : (chunk : List ItemNode) (called : List ℕ) (seed : ℕ) (main : Function) → function_of chunk called ≡ Some main → Settled chunk main most_units (begins chunk main seed) → Comes chunk called seed
+comes_by chunk called seed main is (spent turns h) = inr ((spent_turns_run_out chunk called seed main is).1 (turns, h))
+comes_by chunk called seed main is (ended turns answer cost ends) =
+    elim (within_or_past cost most_units) [
+      | inl few ↦ inl (answer, cost, ((turns_yield chunk called seed main answer cost is).1 (turns, ends), few))
+      | inr many ↦ inr ((spent_turns_run_out chunk called seed main is).1 (turns, subst (λ to. most_units < paid to) (sym ends) many))
+    ]
+
+pub calls_come_to_something : CallsComeToSomething
+calls_come_to_something chunk called seed main is = comes_by chunk called seed main is (all_settle chunk main most_units (begins chunk main seed))

@@ -1,5 +1,5 @@
 -- What a call of the machine gives: the chunk's assignments, then the function, then its value made plain.
-use Rattle.std.specs.Prelude.{◌≡◌, ℕ, zero, suc, ◌+◌, ◌≤◌, ℤ, Bool, List, [], ◌∷◌, Some, Result, Ok, Err}
+use Rattle.std.specs.Prelude.{◌≡◌, ◌⊎◌, ℕ, zero, suc, ◌+◌, ◌≤◌, ℤ, Bool, List, [], ◌∷◌, Some, Result, Ok, Err}
 use Rattle.lua_machine.specs.Tree as t
 use Rattle.lua_machine.specs.Tree.{Node, BlockNode, ItemNode, items_of}
 use Rattle.lua_machine.specs.Value.{LuaValue, Nil, Truth, Number, Text, Table, Fault}
@@ -99,3 +99,8 @@ RunsOut chunk called seed = (answer : Result PlainValue Fault) (cost : ℕ) → 
 abbrev pub YieldsOnce : Type 0
 YieldsOnce = (chunk : List ItemNode) (called : List ℕ) (seed : ℕ) (one other : Result PlainValue Fault) (cost more : ℕ) →
     Yields chunk called seed one cost → Yields chunk called seed other more → (one ≡ other) × (cost ≡ more)
+
+-- a call of a function of the chunk gives an answer within the units that may be paid, or runs out
+abbrev pub CallsComeToSomething : Type 0
+CallsComeToSomething = (chunk : List ItemNode) (called : List ℕ) (seed : ℕ) (main : Function) → function_of chunk called ≡ Some main →
+    ((answer : Result PlainValue Fault) × (cost : ℕ) × Answers chunk called seed answer cost) ⊎ RunsOut chunk called seed

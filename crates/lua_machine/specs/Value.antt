@@ -19,7 +19,7 @@ pub data Fault : Type 0 where
   UnknownName : (line : ℕ) → Fault
   -- a quotient that isn't whole and isn't under `math.floor`, or a divisor 0 of `/` or `%`
   Inexact : (line : ℕ) → Fault
-  -- a number past 2^53 either way, a draw from nothing, or a step 0
+  -- a number past 2^53 either way, a draw whose first number is above its last, or a step 0 of a `for`
   OutOfRange : (line : ℕ) → Fault
   -- a text of more than 1,024 bytes
   LongString : (line : ℕ) → Fault

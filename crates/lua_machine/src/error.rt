@@ -10,9 +10,9 @@ pub enum LuaError {
     TypeFault { line: usize },
     /// A call of no known function.
     UnknownName { line: usize },
-    /// A quotient that isn't whole, or a divisor 0.
+    /// A quotient that isn't whole and isn't the argument of `math.floor`, or a divisor 0 of `/` or `%`.
     Inexact { line: usize },
-    /// A number past 2^53 either way, a draw from nothing, or a step 0.
+    /// A number past 2^53 either way, a draw whose first number is above its last, or a step 0 of a `for`.
     OutOfRange { line: usize },
     /// A text of more than 1,024 bytes.
     LongString { line: usize },
@@ -27,9 +27,12 @@ pub enum LuaError {
 impl fmt::Display for LuaError {
     fn fmt<W: fmt::Write>(&self, f: &mut fmt::Formatter<W>) -> fmt::Result {
         match self {
-            LuaError::TypeFault { line } => write!(f, "wrong kind of value on line {line}"),
+            LuaError::TypeFault { line } => write!(
+                f,
+                "wrong kind or number of values on line {line}"
+            ),
             LuaError::UnknownName { line } => write!(f, "no such function on line {line}"),
-            LuaError::Inexact { line } => write!(f, "no whole quotient on line {line}"),
+            LuaError::Inexact { line } => write!(f, "no exact quotient on line {line}"),
             LuaError::OutOfRange { line } => write!(f, "number out of range on line {line}"),
             LuaError::LongString { line } => write!(f, "text too long on line {line}"),
             LuaError::TooDeepCalls { line } => write!(f, "too many open calls on line {line}"),

@@ -2,8 +2,8 @@
 //!
 //! So far this is the meaning alone, for whoever reads it beside the language: `Yields` of `specs/Answer.antt`
 //! says what a call of a function of a chunk gives, with its cost in units, and `specs/Yields.antt` has one
-//! case for each kind of node, over values (`Value.antt`), tables as numbered rows (`Tables.antt`), variables and
-//! the random words that are left (`State.antt`). What operators and the libraries make of values are functions
+//! case or more for each kind of node, over values (`Value.antt`), tables as numbered rows (`Tables.antt`), variables and
+//! the generator of random words (`State.antt`). What operators and the libraries make of values are functions
 //! (`Operators.antt`, `Library.antt`). A chunk that never ends comes to nothing there, and a call that would pay
 //! more than 500,000 units runs out (`RunsOut`).
 //!
@@ -11,9 +11,10 @@
 //! or the way that comes back, the frames of what waits, the state, and the units paid. `specs/Turn.antt` has one turn
 //! of it, with one case for each kind of node and of frame.
 //!
-//! `laws` says that a call gives one answer at most; that turns come to an answer at a cost exactly where the call gives
-//! it at that cost; that the call runs out exactly where turns come to pay more units than may be paid; and that each turn
-//! pays a unit, or leaves fewer turns that may come before the next one is paid. Nothing here evaluates a chunk yet.
+//! `laws` says that a call gives one answer at most, and that it gives one or runs out; that turns come to an answer at
+//! a cost exactly where the call gives it at that cost; that the call runs out exactly where turns come to pay more units
+//! than may be paid; and that each turn pays a unit, or leaves fewer turns that may come before the next one is paid.
+//! Nothing here evaluates a chunk yet.
 #![tactic(auto)]
 
 mod error;

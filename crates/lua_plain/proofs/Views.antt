@@ -1,8 +1,8 @@
 -- Plain values as they are held, and as they are seen.
-use Rattle.std.proofs.Common.{◌≡◌, ℕ, zero, suc, ◌+◌, ◌<◌, List, [], ◌∷◌, ◌++◌, map, length, get_or, refl, sym, ap, ◌∙◌, arith, Some, Option}
+use Rattle.std.proofs.Common.{◌≡◌, ℕ, zero, suc, ◌<◌, List, [], ◌∷◌, ◌++◌, map, length, get_or, refl, sym, ap, ◌∙◌, arith, Some}
 use Rattle.std.specs.Prelude.{slice_get}
 use Rattle.std.proofs.lemmas.List.{map-append, length-map}
-use Rattle.lua_machine.specs.Answer.{PlainValue, PlainValues, no_values, ◌and◌}
+use Rattle.lua_machine.specs.Answer.{PlainValue, PlainValues, ◌and◌}
 use Rattle.lua_plain.specs.declared.plain.Plain as held
 use Rattle.lua_plain.specs.declared.plain.Plain.TheFolds as folds
 use Rattle.lua_plain.specs.declared.plain.Plain.TheOpen as level

@@ -1,5 +1,5 @@
 -- What contracts see of plain values: the plain data of what a call gives.
-use Rattle.std.specs.Prelude.{ℕ, ℤ, Bool, true, false, List, [], ◌∷◌, Option, Some, None}
+use Rattle.std.specs.Prelude.{ℤ, Bool, true, false, List, [], ◌∷◌, Option, Some, None}
 use Rattle.lua_machine.specs.Answer.{PlainValue, PlainNil, PlainTruth, PlainNumber, PlainText, PlainList, Deep, PlainValues, no_values, ◌and◌}
 use Rattle.lua_plain.specs.declared.plain.Plain as held
 use Rattle.lua_plain.specs.declared.plain.Plain.TheOpen as level

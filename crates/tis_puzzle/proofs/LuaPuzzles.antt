@@ -1,18 +1,20 @@
 -- What a specification gives is one puzzle.
-use Rattle.std.proofs.Common.{◌≡◌, ℕ, suc, ◌<◌, true, false, cond, List, [], ◌∷◌, length, Option, Some, None, Result, Ok, Err, refl, sym, ap, ◌∙◌, subst}
-use Rattle.std.specs.Prelude.{All, ◌==◌}
+use Rattle.std.proofs.Common.{◌≡◌, ℕ, suc, ◌<◌, true, false, cond, List, [], ◌∷◌, length, Option, Some, None, Result, Ok, Err, refl, sym, ap, ◌∙◌, subst, inl, inr, IsTrue}
+use Rattle.std.specs.Prelude.{All, is_some, ◌==◌}
 use Rattle.std.proofs.lemmas.Bool.{eqb-true}
 use Rattle.tis_base.specs.declared.tiles.TileKind.{TileKind}
 use Rattle.tis_grid.specs.Puzzle.{Puzzle, IsPuzzle, Input, Output, bare}
 use Rattle.lua_machine.specs.Tree.{ItemNode}
 use Rattle.lua_machine.specs.Value.{Fault}
 use Rattle.lua_machine.specs.Answer.{PlainValue, Answers}
+use Rattle.lua_machine.specs.Functions.{Function, function_of}
 use Rattle.lua_machine.proofs.OneAnswer.{yields_once}
+use Rattle.lua_machine.proofs.Settling.{calls_come_to_something}
 use Rattle.lua_plain.specs.Plain.{list_in}
 use Rattle.tis_puzzle.specs.Entries as entries
 use Rattle.tis_puzzle.specs.Entries.{ports_of, ports_of_list}
 use Rattle.tis_puzzle.specs.Layout.{kind_in, with_kind, kinds_of, kinds_of_list, layout_of}
-use Rattle.tis_puzzle.specs.LuaPuzzle.{Wanted, Streams, Layout, called, Outcome, Given, Faulted, Spent, ComesTo, Refusal, missing, ports_or, ports_from, on_tiles, on_layout, WithPorts, WithFunctions, OnePuzzle, SpecificationsGivePuzzles}
+use Rattle.tis_puzzle.specs.LuaPuzzle.{Wanted, Name, Description, Streams, Layout, called, first_missing, EachHasAPuzzleOrNone, NoFunction, Outcome, Given, Faulted, Spent, ComesTo, Refusal, missing, ports_or, ports_from, on_tiles, on_layout, WithPorts, WithFunctions, OnePuzzle, SpecificationsGivePuzzles}
 use Rattle.tis_puzzle.proofs.EntryPuzzles.{ports_make_puzzle}
 
 -- ---- one puzzle at most
@@ -133,3 +135,44 @@ with_functions_makes chunk seed None answer (streams, comes, rest) = with_ports_
 pub specifications_give_puzzles : SpecificationsGivePuzzles
 unfolding Makes
 specifications_give_puzzles chunk seed puzzle gives = with_functions_makes chunk seed (missing chunk) (Ok puzzle) gives
+
+-- ---- there is an answer
+
+-- a function that isn't missing is defined
+not_missing : (chunk : List ItemNode) (wanted : Wanted) (others : List Wanted) → first_missing chunk (wanted ∷ others) ≡ None → IsTrue (is_some (function_of chunk (called wanted))) × (first_missing chunk others ≡ None)
+not_missing chunk wanted others =
+    elim (is_some (function_of chunk (called wanted))) as (λ b. cond b (first_missing chunk others) (Some wanted) ≡ None → IsTrue b × (first_missing chunk others ≡ None)) [
+      | true ↦ λ is. (refl, is)
+      | false ↦ λ is. absurd cc
+    ]
+
+outcome_by : (chunk : List ItemNode) (seed : ℕ) (wanted : Wanted) (function : Option Function) → function_of chunk (called wanted) ≡ function → IsTrue (is_some function) → (outcome : Outcome) × ComesTo chunk seed wanted outcome
+outcome_by chunk seed wanted None is there = absurd cc
+outcome_by chunk seed wanted (Some main) is there =
+    elim (calls_come_to_something chunk (called wanted) seed main is) [
+      | inl (Ok value, cost, answers) ↦ (Given value, (cost, answers))
+      | inl (Err why, cost, answers) ↦ (Faulted why, (cost, answers))
+      | inr out ↦ (Spent, out)
+    ]
+
+-- a call of a function that is defined comes to something
+outcome_there : (chunk : List ItemNode) (seed : ℕ) (wanted : Wanted) → IsTrue (is_some (function_of chunk (called wanted))) → (outcome : Outcome) × ComesTo chunk seed wanted outcome
+outcome_there chunk seed wanted there = outcome_by chunk seed wanted (function_of chunk (called wanted)) refl there
+
+answer_with_ports : (chunk : List ItemNode) (seed : ℕ) (ports : Result Puzzle Refusal) → IsTrue (is_some (function_of chunk (called Layout))) → (answer : Result Puzzle Refusal) × WithPorts chunk seed ports answer
+answer_with_ports chunk seed (Ok ports) there = let layout = outcome_there chunk seed Layout there in (on_layout ports layout.0, (layout.0, layout.1, refl))
+answer_with_ports chunk seed (Err why) there = (Err why, refl)
+
+answer_with_functions : (chunk : List ItemNode) (seed : ℕ) (gap : Option Wanted) → missing chunk ≡ gap → (answer : Result Puzzle Refusal) × WithFunctions chunk seed gap answer
+answer_with_functions chunk seed (Some wanted) is = (Err (NoFunction wanted), refl)
+answer_with_functions chunk seed None is =
+    let named = not_missing chunk Name (Description ∷ Streams ∷ Layout ∷ []) is in
+    let described = not_missing chunk Description (Streams ∷ Layout ∷ []) named.1 in
+    let streaming = not_missing chunk Streams (Layout ∷ []) described.1 in
+    let laid_out = not_missing chunk Layout [] streaming.1 in
+    let streams = outcome_there chunk seed Streams streaming.0 in
+    let answer = answer_with_ports chunk seed (ports_from streams.0) laid_out.0 in
+    (answer.0, (streams.0, streams.1, answer.1))
+
+pub each_has_a_puzzle_or_none : EachHasAPuzzleOrNone
+each_has_a_puzzle_or_none chunk seed = answer_with_functions chunk seed (missing chunk) refl

@@ -101,3 +101,7 @@ OnePuzzle = (chunk : List ItemNode) (seed : ℕ) (one other : Result Puzzle Refu
 -- what a specification gives is a puzzle: a grid can be made of it
 abbrev pub SpecificationsGivePuzzles : Type 0
 SpecificationsGivePuzzles = (chunk : List ItemNode) (seed : ℕ) (puzzle : Puzzle) → LuaPuzzle chunk seed (Ok puzzle) → IsPuzzle puzzle
+
+-- each chunk has a puzzle with each seed, or a reason why it has none
+abbrev pub EachHasAPuzzleOrNone : Type 0
+EachHasAPuzzleOrNone = (chunk : List ItemNode) (seed : ℕ) → (answer : Result Puzzle Refusal) × LuaPuzzle chunk seed answer

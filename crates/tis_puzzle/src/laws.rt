@@ -1,9 +1,10 @@
 //! Laws of puzzles that specifications give.
-ghost use Rattle.tis_puzzle.specs.LuaPuzzle.{OnePuzzle, SpecificationsGivePuzzles};
+ghost use Rattle.tis_puzzle.specs.LuaPuzzle.{EachHasAPuzzleOrNone, OnePuzzle, SpecificationsGivePuzzles};
 
-/// A chunk and a seed have one puzzle at most, or one reason why there is none; and what they give is a puzzle of which
-/// a grid can be made.
+/// Each chunk has a puzzle with each seed, or a reason why it has none; there is one such answer at most; and what is
+/// given is a puzzle of which a grid can be made.
 pub fn specifications_give_one_puzzle()
+    ensures some { EachHasAPuzzleOrNone }
     ensures one { OnePuzzle }
     ensures puzzle { SpecificationsGivePuzzles }
 {}

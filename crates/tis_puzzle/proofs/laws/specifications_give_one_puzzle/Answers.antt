@@ -3,4 +3,4 @@ use Rattle.tis_puzzle.proofs.LuaPuzzles as LuaPuzzles
 use Rattle.tis_puzzle.proofs.laws.specifications_give_one_puzzle.Goals as goal
 
 pub returns : goal.returns
-returns c = record { one = LuaPuzzles.one_puzzle; puzzle = LuaPuzzles.specifications_give_puzzles }
+returns c = record { some = LuaPuzzles.each_has_a_puzzle_or_none; one = LuaPuzzles.one_puzzle; puzzle = LuaPuzzles.specifications_give_puzzles }
