@@ -10,8 +10,8 @@
 //! let value = Plain::List(list);
 //! ```
 //!
-//! An element is found by its number without a walk. Who evaluates a chunk makes plain values, and who wants a
-//! puzzle of them looks at them; nothing here knows of either.
+//! An element is found by its index in constant time. Who evaluates a chunk makes plain values, and who wants a puzzle
+//! of them looks at them; nothing here does either.
 #![tactic(auto)]
 
 mod plain;

@@ -20,7 +20,7 @@ pub enum Plain {
     Number(i64),
     /// A text.
     Text(Text),
-    /// A table, as the values at 1, 2 and so on, up to the first that isn't there.
+    /// A table, as the values at 1, 2 and so on, before the first that isn't there.
     List(Plains),
     /// A table inside of four others.
     Deep,

@@ -187,10 +187,11 @@ fn no_tiles() -> Tiles
     Tiles::new(shape, &[TileKind::Damaged; 12]).unwrap()
 }
 
-/// The ports of what `get_streams` gives, a list of entries, on tiles that all are damaged. An entry is a list of a kind (0 an
-/// input, 1 an output, 2 an image), a text, a position from 0 to 3, and a list of values: at most 39 from -999 to 999, or
-/// the 540 colours of an image. The first other entry is refused, or the first at a position that an earlier one on its
-/// side has.
+/// The inputs and outputs of what `get_streams` gives, a list of entries, on tiles that all are damaged. An entry is a list
+/// whose first four values are a kind (0 an input, 1 an output, 2 an image), a text, a position from 0 to 3, and a list of
+/// values: at most 39 from -999 to 999, or the 540 colours of an image, from 0 to 4. `BadStreams` names the first other
+/// entry, from 1 on, and 0 where there is no list; `SamePlace` names one at a position that an earlier one on its side
+/// has. An entry of which both hold is `BadStreams`.
 pub fn read_streams(alloc: Global, streams: &Plain) -> Result<Puzzle, PuzzleError>
     ensures ports { AnswersPorts result (ports_of (plain_view streams.now)) }
     ensures puzzle { IfOk result (λ read. IsPuzzle (puzzle_of read)) }

@@ -1,6 +1,6 @@
 //! Puzzles from the plain values of a specification.
 //!
-//! A specification is a chunk of Lua whose function `get_streams` gives a list of streams, and `get_layout` a list of
+//! A specification is a chunk of Lua whose function `get_streams` gives a list of entries, and `get_layout` a list of
 //! tiles. [`read_streams`] makes the ports of the first list, and [`read_layout`] the tiles of the second. The layers
 //! above rely on this: each answer is what `ports_of` of `specs/Entries.antt` and `layout_of` of `specs/Layout.antt` say,
 //! the first wrong entry or value is the one that is refused, and what is read are the ports of a puzzle, with
@@ -18,8 +18,8 @@
 //! fails, or a list that isn't what it has to be. `laws` says that there is one answer at most, and that a grid can be made
 //! of what is given.
 //!
-//! Each value is looked at once, and each value of a stream is held in two bytes. Nothing here evaluates a chunk yet: what
-//! the functions give has to be there.
+//! A list is gone over once, an image's twice, and each of its values is held in two bytes. A list that is too long is
+//! refused once it was copied. Nothing here evaluates a chunk yet: what the functions give has to be there.
 #![tactic(auto)]
 
 mod entries;
