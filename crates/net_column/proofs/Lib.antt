@@ -1,24 +1,16 @@
-pub mod Parts
-pub mod Steps
-pub mod Numerals
-pub mod BodyLines
-pub mod Distinct
-pub mod Spelling
-pub mod Found
-pub mod Emitted
+pub mod Bodies
+pub mod Rounds
 pub mod GridLaws
 pub mod Stage
 pub mod PassStage
 pub mod Pipeline
-pub mod Bodies
-pub mod Fuel
-pub mod Rounds
-pub mod Instructions
-pub mod Places
 pub mod BodyStage
 pub mod ColumnStages
 pub mod ColumnKahn
-pub mod BodyValues
 pub mod ColumnPrograms
 pub mod Columns
-mod StreamExamples
+pub mod Emitted
+mod Fuel
+pub mod Forms
+pub mod Placing
+pub mod SmallNets

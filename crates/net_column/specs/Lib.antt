@@ -1,11 +1,7 @@
-pub mod Net
-pub mod NetText
 pub mod Column
-pub mod Reading
-pub mod NetView
 pub mod Compiled
 pub mod Emission
-pub mod Process
-pub mod Kahn
 pub mod Carries
-pub mod Behaves
+pub mod Form
+pub mod Answers
+pub mod Laws

@@ -1,48 +1,45 @@
-//! The programs of a network.
-ghost use Rattle.std.specs.Prelude.{◌≡◌, ◌<◌, ◌+◌, ◌∷◌, [], false, ℕ, map, All, IfSome, IfOk};
+//! The programs of a network of one column.
+ghost use Rattle.std.specs.Prelude.{◌≡◌, ◌<◌, ◌+◌, ◌∷◌, [], ℕ, length, map, All, IfSome, IfOk};
 ghost use Rattle.tis_base.specs.Answers.{Gives};
-ghost use Rattle.tis_base.specs.Tiles.{Tiles};
 ghost use Rattle.tis_asm.specs.Programs.{IsSound, program_at};
+ghost use Rattle.net_tree.specs.View.{port_view, process_view};
+ghost use Rattle.net_rules.specs.CheckedNet.{IsChecked, net_of};
+ghost use Rattle.net_rules.specs.Numbers.{numbered};
+ghost use Rattle.net_select.specs.HeldPorts.{ports_of};
+ghost use Rattle.net_select.specs.Selection.{program_of as code_on};
+ghost use Rattle.net_select.specs.Selects.{body_of};
 ghost use Rattle.net_column.specs.Carries.{Carries};
-ghost use Rattle.net_column.specs.Column.{plain_tiles};
-ghost use Rattle.net_column.specs.Compiled.{pass_code, statement_code, code_of, compiled};
+ghost use Rattle.net_column.specs.Column.{IsColumn, plain_tiles};
+ghost use Rattle.net_column.specs.Compiled.{column_ports as ports_in_column, pass_code, compiled};
 ghost use Rattle.net_column.specs.Emission.{put_on, with_processes, with_passes, with_links};
-ghost use Rattle.net_column.specs.NetView.{statement_view, statements_view, port_view, process_view, net_view, IsTaken};
 
-use crate::tree::{Block, Net, Path, PortLine, ProcessText, Statement};
+use net_rules::Checked;
+use net_select::{Ports, code_behaves, code_is_sound, lines_are_told, select};
+use net_tree::{Path, PortLine, ProcessText};
 use std::alloc::Global;
 use tis_asm::{Dest, Instr, Program, Programs, Source};
 use tis_base::{Dir, NoMemory, Tile};
 
-// The instruction of a statement.
-fn instr_of(statement: &Statement) -> Instr
-    ensures { record { instr = result; mark = false } ≡ statement_code (statement_view statement.now) }
+// The directions in which the links of a process lie that reads the name of this number and writes the next one.
+fn column_ports(read: u32) -> Ports
+    requires { read < 3 }
+    ensures { ports_of result ≡ ports_in_column (read + 1) }
 {
-    match statement {
-        Statement::Get(..) => Instr::Mov(Source::Port(Dir::Up), Dest::Acc),
-        Statement::Put(..) => Instr::Mov(Source::Acc, Dest::Port(Dir::Down)),
-        Statement::PutNumber(_, number) => Instr::Mov(
-            Source::Number(*number),
-            Dest::Port(Dir::Down),
-        ),
-        Statement::Move(..) => Instr::Mov(Source::Port(Dir::Up), Dest::Port(Dir::Down)),
-        Statement::Set(_, number) => Instr::Mov(Source::Number(*number), Dest::Acc),
-        Statement::Add(_, number) => Instr::Add(Source::Number(*number)),
-        Statement::Sub(_, number) => Instr::Sub(Source::Number(*number)),
-        Statement::Neg(_) => Instr::Neg,
-        Statement::Double(_) => Instr::Add(Source::Acc),
-    }
+    let mut ports = Ports::new();
+    ports.set(read, Dir::Up);
+    ports.set(read + 1, Dir::Down);
+    ports
 }
 
-// The program of a process: an instruction for each statement.
-fn program_of(body: &Block) -> Program
-    ensures { result ≡ code_of (statements_view body.now) }
+// The program of the process of this index.
+fn program_of(net: &Checked, process: u32) -> Program
+    requires checked { IsChecked net.now }
+    requires column { IsColumn (net_of net.now) }
+    requires within { process < length (numbered (net_of net.now)).processes }
+    ensures { result ≡ code_on (ports_in_column (process + 1)) (body_of net.now process) }
 {
-    let mut program = Program::new();
-    for index in 0..body.len() {
-        program.push(instr_of(body.at(index)), false);
-    }
-    program
+    lines_are_told();
+    select(net, process, &column_ports(process)).unwrap()
 }
 
 // The program that passes each value on, from above to below.
@@ -55,25 +52,30 @@ fn pass_program() -> Program
     program
 }
 
-// Puts the program of a process on its tile.
-fn place_process(programs: &mut Programs, process: &ProcessText)
+// Puts the program of a process, which has this index, on its tile.
+fn place_process(programs: &mut Programs, net: &Checked, process: &ProcessText, index: u32)
+    requires checked { IsChecked net.now }
+    requires column { IsColumn (net_of net.now) }
+    requires within { index < length (numbered (net_of net.now)).processes }
     requires tiles { programs.old.tiles ≡ plain_tiles }
     requires on_grid { IfSome process.now.at (λ tile. tile < 12) }
-    ensures { programs.new ≡ record programs.old { programs = put_on process.now.at (code_of (statements_view process.now.body)) programs.old.programs } }
+    ensures { programs.new ≡ record programs.old { programs = put_on process.now.at (code_on (ports_in_column (index + 1)) (body_of net.now index)) programs.old.programs } }
 {
     if let Some(number) = process.at {
-        programs.set(Tile { number }, program_of(&process.body));
+        programs.set(Tile { number }, program_of(net, index));
     }
 }
 
 // Puts the programs of the processes on their tiles.
-fn place_processes(programs: &mut Programs, processes: &[ProcessText])
+fn place_processes(programs: &mut Programs, net: &Checked)
+    requires checked { IsChecked net.now }
+    requires column { IsColumn (net_of net.now) }
     requires tiles { programs.old.tiles ≡ plain_tiles }
-    requires on_grid { All (λ process. IfSome process.at (λ tile. tile < 12)) processes.now }
-    ensures { programs.new ≡ record programs.old { programs = with_processes (map process_view processes.now) programs.old.programs } }
+    ensures { programs.new ≡ record programs.old { programs = with_processes 0 (net_of net.now).processes (numbered (net_of net.now)).processes programs.old.programs } }
 {
-    for process in processes {
-        place_process(programs, process);
+    let processes = net.net().processes.as_slice();
+    'processes: for index in 0..processes.len() {
+        place_process(programs, net, &processes[index], index as u32);
     }
 }
 
@@ -102,16 +104,22 @@ fn place_links(programs: &mut Programs, ports: &[PortLine])
     }
 }
 
-/// The programs that carry the network, in whatever order things happen: the code of each process on its
+/// The programs that carry a network of one column, in whatever order things happen: the code of each process on its
 /// tile, and a `MOV` on each tile that its output passes.
-pub fn emit(alloc: Global, net: &Net) -> Result<Programs, NoMemory>
-    requires { IsTaken (net_view net.now) }
-    ensures programs { Gives (λ programs. programs) result (compiled (net_view net.now)) }
+pub fn emit(alloc: Global, net: &Checked) -> Result<Programs, NoMemory>
+    requires checked { IsChecked net.now }
+    requires column { IsColumn (net_of net.now) }
+    ensures programs { Gives (λ programs. programs) result (compiled (net_of net.now)) }
     ensures sound { IfOk result (λ programs. (tile : ℕ) → IsSound (program_at programs.programs tile)) }
-    ensures carries { IfOk result (λ programs. Carries programs (net_view net.now)) }
+    ensures carries { IfOk result (λ programs. Carries programs (numbered (net_of net.now))) }
 {
-    let mut programs = Programs::empty(alloc, net.tiles)?;
-    place_processes(&mut programs, &net.processes);
-    place_links(&mut programs, &net.outputs);
+    code_behaves();
+    code_is_sound();
+    let tree = net.net();
+    let mut programs = Programs::empty(alloc, tree.tiles)?;
+    place_processes(&mut programs, net);
+    place_links(&mut programs, &tree.outputs);
+    // They are programs of these tiles.
+    programs.tiles();
     Ok(programs)
 }

@@ -1,5 +1,5 @@
 //! Laws of selection.
-ghost use Rattle.net_select.specs.Laws.{LinesAreTold, CodeBehaves};
+ghost use Rattle.net_select.specs.Laws.{LinesAreTold, CodeBehaves, CodeIsSound};
 
 use net_rules::processes_wait;
 
@@ -17,3 +17,8 @@ pub fn code_behaves()
     // The call tells the proof that each process of an accepted network comes to wait.
     processes_wait();
 }
+
+/// Each jump of the code of a process goes to one of its instructions, whatever its ports are.
+pub fn code_is_sound()
+    ensures { CodeIsSound }
+{}

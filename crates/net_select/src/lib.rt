@@ -42,6 +42,6 @@ mod ports;
 mod selection;
 mod selector;
 
-pub use laws::{code_behaves, lines_are_told};
+pub use laws::{code_behaves, code_is_sound, lines_are_told};
 pub use ports::Ports;
 pub use selection::{SelectError, lines_of, select};

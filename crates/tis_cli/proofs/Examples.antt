@@ -3,21 +3,22 @@ use Rattle.std.proofs.Common.{◌≡◌, ℕ, List, [], ◌∷◌, refl}
 use Rattle.std.specs.Prelude.{codes, Some, Ok}
 use Rattle.std.specs.Fmt.{digits}
 use Rattle.tis_asm.specs.Programs.{Programs}
-use Rattle.net_column.specs.Column.{Column, column_net, plain_tiles}
+use Rattle.net_tree.specs.Tree.{Move, Empty, Then, Net}
+use Rattle.net_column.specs.Column.{plain_tiles}
 use Rattle.net_column.specs.Compiled.{pass_code, compiled}
-use Rattle.net_column.specs.Net.{Move}
 use Rattle.tis_save.specs.Writing.{save_text}
 use Rattle.tis_save.specs.Reading.{save_of}
 
 -- the column at position 1, whose names have one letter each
-abbrev column_a : Column
+abbrev column_a : Net
 column_a =
     record {
-      position = 1;
-      input = codes "a";
-      output = codes "o";
+      version = 1;
+      tiles = plain_tiles;
+      inputs = record { name = codes "a"; position = 1; via = Some []; line = 3 } ∷ [];
+      outputs = record { name = codes "o"; position = 1; via = Some (5 ∷ 9 ∷ []); line = 4 } ∷ [];
       channels = [];
-      processes = record { name = codes "p"; at = Some 1; body = Move (codes "a") (codes "o") ∷ [] } ∷ [];
+      processes = record { name = codes "p"; at = Some 1; body = Then 6 (Move (codes "a") (codes "o")) Empty; line = 5 } ∷ [];
     }
 
 -- its save
@@ -28,10 +29,10 @@ save_a = codes "@1\nMOV UP, DOWN\n\n@5\nMOV UP, DOWN\n\n@9\nMOV UP, DOWN\n\n"
 abbrev programs_of_a : Programs
 programs_of_a = record { tiles = plain_tiles; programs = [] ∷ pass_code ∷ [] ∷ [] ∷ [] ∷ pass_code ∷ [] ∷ [] ∷ [] ∷ pass_code ∷ [] ∷ [] ∷ [] }
 
-programs_a : compiled (column_net column_a) ≡ programs_of_a
+programs_a : compiled column_a ≡ programs_of_a
 programs_a = refl
 
-written_a : save_text (compiled (column_net column_a)) ≡ save_a
+written_a : save_text (compiled column_a) ≡ save_a
 unfolding digits
 written_a = refl
 

@@ -3,13 +3,14 @@ use Rattle.std.proofs.Common.{◌≡◌, ℕ, List, [], ◌∷◌, Option, Some,
 use Rattle.std.specs.Prelude.{IfSome, Ok}
 use Rattle.tis_base.specs.Outside.{Texts, text_at, with_text}
 use Rattle.tis_cli.specs.declared.status.Refusal.TheVariants.{NotThisForm}
-use Rattle.net_column.specs.declared.tree.NetError.{NetError}
-use Rattle.net_column.specs.declared.tree.NetError.TheVariants as unread
+use Rattle.net_column.specs.declared.error.FormError.{FormError}
+use Rattle.net_column.specs.declared.error.FormError.TheVariants as unread
 use Rattle.tis_cli.specs.Statuses.{form_status}
 use Rattle.tis_cli.specs.Answers.{Refuses, Makes, AllDone}
 use Rattle.tis_cli.specs.Commands.{Compile, IsCompiled}
-use Rattle.net_column.specs.Net.{Net}
-use Rattle.net_column.specs.Column.{NetOf}
+use Rattle.net_tree.specs.Tree.{Net}
+use Rattle.net_rules.specs.Numbers.{numbered}
+use Rattle.net_column.specs.Form.{HasForm}
 use Rattle.net_column.specs.Compiled.{compiled}
 use Rattle.tis_save.specs.Writing.{save_text}
 use Rattle.tis_save.specs.Reading.{save_of}
@@ -31,7 +32,7 @@ pub one_missing : (texts : Texts) (name : List ℕ) → text_at texts name ≡ N
 one_missing texts name none = ap (λ (first : Option (List ℕ)). with_first first (Some [])) none
 
 -- the save of a network is all that is promised of it
-compiled_as_promised : (text bytes : List ℕ) (net : Net) → NetOf text net → bytes ≡ save_text (compiled net) → save_of bytes net.tiles ≡ Ok (compiled net) → Carries (compiled net) net → IsCompiled (text ∷ []) bytes
+compiled_as_promised : (text bytes : List ℕ) (net : Net) → HasForm text net → bytes ≡ save_text (compiled net) → save_of bytes net.tiles ≡ Ok (compiled net) → Carries (compiled net) (numbered net) → IsCompiled (text ∷ []) bytes
 compiled_as_promised text bytes net of written reads_back carries =
     record {
       text = text;
@@ -49,30 +50,30 @@ module _ (told : Option Texts) (name save text seen : List ℕ) (fetched : IfSom
   stands texts is = one_stands texts name text (told_is told (λ (t : Texts). text_at t name ≡ Some text) fetched texts is)
 
   -- a text that was fetched and is no network is refused, and nothing has changed
-  refusal_explained : ((net : Net) → NetOf seen net → ⊥) → (new : Option Texts) → new ≡ told → (written : Option (List ℕ)) (texts : Texts) → told ≡ Some texts →
+  refusal_explained : ((net : Net) → HasForm seen net → ⊥) → (new : Option Texts) → new ≡ told → (written : Option (List ℕ)) (texts : Texts) → told ≡ Some texts →
       IsAnswered (Compile name save) texts written (Refused NotThisForm) (record { texts = new; written = written })
   refusal_explained none new stayed written texts is =
       record {
         found = text ∷ [];
         answer = Refuses NotThisForm;
         stand = stands texts is;
-        comes = (λ net of. none net (subst (λ (t : List ℕ). NetOf t net) (sym same) of), refl);
+        comes = (λ net of. none net (subst (λ (t : List ℕ). HasForm t net) (sym same) of), refl);
         status_is = refl;
         arrives = (stayed ∙ is, refl);
         promised = tt;
       }
 
   -- a text that was fetched and isn't read as a network
-  pub unread_explained : (new : Option Texts) → new ≡ told → (written : Option (List ℕ)) (error : NetError) → (error ≡ unread.NotThisForm → (net : Net) → NetOf seen net → ⊥) →
+  pub unread_explained : (new : Option Texts) → new ≡ told → (written : Option (List ℕ)) (error : FormError) → (error ≡ unread.NotThisForm → (net : Net) → HasForm seen net → ⊥) →
       Explains (Compile name save) told written (form_status error) (record { texts = new; written = written })
   unread_explained new stayed written unread.NotThisForm none = refusal_explained (none refl) new stayed written
   unread_explained new stayed written unread.NoMemory none = tt
 
   -- a text that was fetched and is a network is compiled: its save was kept
-  pub saved_explained : (between new : Option Texts) (bytes : List ℕ) (net : Net) → NetOf seen net → bytes ≡ save_text (compiled net) → save_of bytes net.tiles ≡ Ok (compiled net) → Carries (compiled net) net → between ≡ told → new ≡ option_map (λ texts. with_text texts save bytes) between →
+  pub saved_explained : (between new : Option Texts) (bytes : List ℕ) (net : Net) → HasForm seen net → bytes ≡ save_text (compiled net) → save_of bytes net.tiles ≡ Ok (compiled net) → Carries (compiled net) (numbered net) → between ≡ told → new ≡ option_map (λ texts. with_text texts save bytes) between →
       (written : Option (List ℕ)) (texts : Texts) → told ≡ Some texts → IsAnswered (Compile name save) texts written Done (record { texts = new; written = written })
   saved_explained between new bytes net of is_save reads_back carries stayed kept written texts is =
-      let is_net : NetOf text net = subst (λ (t : List ℕ). NetOf t net) same of in
+      let is_net : HasForm text net = subst (λ (t : List ℕ). HasForm t net) same of in
       record {
         found = text ∷ [];
         answer = Makes AllDone bytes;

@@ -6,5 +6,4 @@ pub mod RunAnswers
 pub mod Fetching
 mod ClockAnswers
 pub mod Seeds
-mod SmallNets
 mod Networks

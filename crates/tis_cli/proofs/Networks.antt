@@ -1,7 +1,7 @@
 -- What the command `net` comes to.
-use Rattle.std.proofs.Common.{◌≡◌, ℕ, List, Option, Some, None, refl, sym, ap, subst, ◌∙◌}
-use Rattle.std.specs.Prelude.{Result, Ok, Err}
-use Rattle.tis_grid.specs.Puzzle.{Input, Puzzle, values_at}
+use Rattle.std.proofs.Common.{◌≡◌, ℕ, List, Option, None, sym, ap, subst, ◌∙◌}
+use Rattle.std.specs.Prelude.{Result}
+use Rattle.tis_grid.specs.Puzzle.{Puzzle, values_at}
 use Rattle.net_tree.specs.Tree.{Net}
 use Rattle.net_syntax.specs.declared.error.NetError.{NetError}
 use Rattle.net_syntax.specs.declared.error.NetError.TheVariants as held_net

@@ -1,16 +1,15 @@
 -- What each status says, for the words that were given.
-use Rattle.std.proofs.Common.{◌≡◌, ℕ, List, [], ◌∷◌, Option, Some, None, refl, sym, ap, subst, ◌∙◌, inl, inr}
+use Rattle.std.proofs.Common.{◌≡◌, ℕ, List, [], ◌∷◌, Option, Some, None, Result, Ok, refl, sym, ap, subst, ◌∙◌, inl, inr}
 use Rattle.tis_base.specs.Outside.{Texts}
 use Rattle.tis_cli.specs.declared.status.Status.{Status}
 use Rattle.tis_cli.specs.declared.status.Status.TheVariants.{Done, NotPassed, Words, Refused, Missing, StoreFault, SinkFault, NoMemory, Limit}
 use Rattle.tis_cli.specs.declared.status.Refusal.{Refusal}
-use Rattle.net_column.specs.Net.{Net}
+use Rattle.net_tree.specs.Tree.{Net}
 use Rattle.net_column.specs.Compiled.{compiled}
 use Rattle.tis_save.specs.Writing.{save_text}
 use Rattle.tis_cli.specs.Answers.{Completion, AllDone, Limited, Stopped, Failed, Answer, Refuses, Makes, Destination, Kept, Put, answer_status}
 use Rattle.tis_cli.specs.Commands.{Command, Compile, Run, Order, Replay, Grade, Network, NetComesTo, RunsTo, OrdersTo, ReplaysTo, GradesTo, command_of, fetched, destination_of, CompilesTo, ComesTo, AnswersAreOne, Debug, DebugsTo}
 use Rattle.tis_cli.specs.Outcomes.{IsCalled, PutsBytes, texts_under, World, IsOfAnswer, IsAnswered, IsCutShort, IsUnlessFailure, Explains}
-use Rattle.net_column.proofs.Found.{texts_have_one_net}
 
 same_texts : {a b : List (List ℕ)} {found : Option (List (List ℕ))} → found ≡ Some a → found ≡ Some b → a ≡ b
 same_texts is other = cc
@@ -23,12 +22,15 @@ same_command is other = cc
 
 -- ---- texts come to one answer
 
+same_net : {E : Type 0} {a b : Net} {given : Result Net E} → given ≡ Ok a → given ≡ Ok b → a ≡ b
+same_net is other = cc
+
 compiles_once : (texts : List (List ℕ)) (one other : Answer) → CompilesTo texts one → CompilesTo texts other → one ≡ other
 compiles_once (text ∷ []) (Refuses refusal) (Refuses another) first second = ap (λ (r : Refusal). Refuses r) (first.1 ∙ sym second.1)
 compiles_once (text ∷ []) (Refuses refusal) (Makes completion bytes) first second = absurd (first.0 second.0 second.1)
 compiles_once (text ∷ []) (Makes completion bytes) (Refuses refusal) first second = absurd (second.0 first.0 first.1)
 compiles_once (text ∷ []) (Makes completion bytes) (Makes another others) first second =
-    let same : first.0 ≡ second.0 = texts_have_one_net text first.0 second.0 first.1 second.1 in
+    let same : first.0 ≡ second.0 = same_net first.1.gives second.1.gives in
     let bytes_same : bytes ≡ others = first.3 ∙ ap (λ (n : Net). save_text (compiled n)) same ∙ sym second.3 in
     ap (λ (c : Completion). Makes c bytes) (first.2 ∙ sym second.2) ∙ ap (λ (b : List ℕ). Makes another b) bytes_same
 compiles_once [] one other first second = absurd first

@@ -9,8 +9,9 @@ use Rattle.tis_cli.specs.Answers.{Answer, Refuses, Makes, AllDone, Destination, 
 use Rattle.tis_words.specs.Numerals.{number_of}
 use Rattle.tis_cli.specs.Nets.{net_answer}
 use Rattle.tis_cli.specs.Runs.{run_answer, order_answer, replay_answer, grade_answer, debug_answer}
-use Rattle.net_column.specs.Net.{Net}
-use Rattle.net_column.specs.Column.{NetOf}
+use Rattle.net_tree.specs.Tree.{Net}
+use Rattle.net_rules.specs.Numbers.{numbered}
+use Rattle.net_column.specs.Form.{HasForm}
 use Rattle.net_column.specs.Compiled.{compiled}
 use Rattle.net_column.specs.Carries.{Carries}
 use Rattle.tis_save.specs.Writing.{save_text}
@@ -106,23 +107,23 @@ command_view (held_as.Debug save spec seed script) = Debug save.now spec.now see
 
 -- ---- compile
 
--- the text of a network is compiled to the canonical save of its programs; any other text is refused as one that isn't of the form that is taken so far
+-- the text of a network of the form that is taken so far is compiled to the canonical save of its programs; any other text is refused as one that isn't of the form
 abbrev pub CompilesTo : List (List ℕ) → Answer → Type 0
-CompilesTo (text ∷ []) (Refuses refusal) = ((net : Net) → NetOf text net → ⊥) × (refusal ≡ NotThisForm)
-CompilesTo (text ∷ []) (Makes completion bytes) = (net : Net) × NetOf text net × (completion ≡ AllDone) × (bytes ≡ save_text (compiled net))
+CompilesTo (text ∷ []) (Refuses refusal) = ((net : Net) → HasForm text net → ⊥) × (refusal ≡ NotThisForm)
+CompilesTo (text ∷ []) (Makes completion bytes) = (net : Net) × HasForm text net × (completion ≡ AllDone) × (bytes ≡ save_text (compiled net))
 -- one text is fetched
 CompilesTo [] answer = ⊥
 CompilesTo (text ∷ other ∷ texts) answer = ⊥
 
--- the text is that of a network, and these bytes are the canonical save of its programs; the save is read as these programs, and on every grid of a puzzle that fits they follow the network in every order
+-- the text is that of a network of the form, which keeps each rule, and these bytes are the canonical save of its programs; the save is read as these programs, and on every grid of a puzzle that fits they follow the network in every order
 pub record IsCompiled (texts : List (List ℕ)) (bytes : List ℕ) : Type 0 where
   pub text : List ℕ
   pub net : Net
   pub is_text : texts ≡ text ∷ []
-  pub is_net : NetOf text net
+  pub is_net : HasForm text net
   pub saved : bytes ≡ save_text (compiled net)
   pub reads_back : save_of bytes net.tiles ≡ Ok (compiled net)
-  pub carries : Carries (compiled net) net
+  pub carries : Carries (compiled net) (numbered net)
 
 -- ---- net
 

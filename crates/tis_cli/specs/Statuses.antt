@@ -14,8 +14,8 @@ use Rattle.tis_debug.specs.declared.error.ScriptError.{ScriptError}
 use Rattle.tis_debug.specs.declared.error.ScriptError.TheVariants as script
 use Rattle.tis_base.specs.declared.store.StoreError.{StoreError}
 use Rattle.tis_base.specs.declared.store.StoreError.TheVariants as fault
-use Rattle.net_column.specs.declared.tree.NetError.{NetError as FormError}
-use Rattle.net_column.specs.declared.tree.NetError.TheVariants as unread
+use Rattle.net_column.specs.declared.error.FormError.{FormError}
+use Rattle.net_column.specs.declared.error.FormError.TheVariants as unread
 use Rattle.net_syntax.specs.declared.error.NetError.{NetError}
 use Rattle.net_syntax.specs.declared.error.NetError.TheVariants as net
 use Rattle.net_rules.specs.declared.error.RuleError.{RuleError}

@@ -10,7 +10,7 @@ use crate::grades::grade;
 use crate::nets::net as net_streams;
 use crate::runs::{Run, clock, debug, order, replay};
 use crate::status::Status;
-use net_column::{emit, read_net};
+use net_column::compile as compile_text;
 use std::alloc::Global;
 use tis_base::{Sink, Store};
 use tis_save::write_save;
@@ -25,8 +25,7 @@ fn compile<S: Store>(alloc: Global, net: &str, save: &str, store: &mut S) -> Res
     ensures faults_stay { result ≢ Err Status.StoreFault → S.faults store.new ≡ S.faults store.old }
 {
     let text = store.fetch(alloc, net)?;
-    let tree = read_net(alloc, &text)?;
-    let programs = emit(alloc, &tree)?;
+    let programs = compile_text(alloc, &text)?;
     let bytes = write_save(alloc, &programs)?;
     store.keep(save, &bytes)?;
     Ok(())

@@ -2,7 +2,7 @@
 ghost use Rattle.std.specs.Prelude.{◌≡◌};
 ghost use Rattle.tis_cli.specs.Statuses.{number_of};
 
-use net_column::NetError as FormError;
+use net_column::FormError;
 use net_rules::RuleError;
 use net_syntax::NetError;
 use tis_base::{NoMemory, SinkError, StoreError};

@@ -1,6 +1,6 @@
 use Rattle.std.proofs.Common.{◌≡◌, drop, map}
 use Rattle.net_column.specs.Emission.{with_links}
-use Rattle.net_column.specs.NetView.{port_view}
+use Rattle.net_tree.specs.View.{port_view}
 use Rattle.net_column.proofs.emitting.place_links.Given as goal
 
 abbrev pub invariant-loop-port : goal.invariant-loop-port

@@ -3,7 +3,7 @@ use Rattle.std.specs.Prelude.{slice_set}
 use Rattle.tis_asm.specs.declared.program.MarkedInstr.{MarkedInstr}
 use Rattle.tis_asm.specs.Programs.{Programs}
 use Rattle.net_column.specs.Emission.{with_passes}
-use Rattle.net_column.proofs.Steps.{passes_more}
+use Rattle.net_column.proofs.Placing.{passes_more}
 use Rattle.net_column.proofs.emitting.place_passes.Goals as goal
 
 pub loop-index-preserved : goal.loop-index-preserved

@@ -1,7 +1,6 @@
 use Rattle.std.proofs.Common.{rules, ◌≡◌, ap, sym, subst, Err, ◌∙◌}
 use Rattle.net_tree.specs.View.{net_view}
 use Rattle.net_syntax.specs.Reading as reading
-use Rattle.tis_grid.specs.Puzzle.{puzzle_of}
 use Rattle.tis_grid_text.specs.GridText as text
 use Rattle.tis_cli.specs.Answers.{Answer}
 use Rattle.tis_cli.specs.Runs.{over_puzzle}
@@ -9,7 +8,7 @@ use Rattle.tis_cli.specs.Ends.{Ends}
 use Rattle.tis_cli.specs.Nets.{over_net, over_rules, net_answer}
 use Rattle.tis_cli.specs.Statuses.{net_status, grid_status}
 use Rattle.tis_cli.proofs.Networks.{net_stops, grid_stops}
-use Rattle.tis_cli.proofs.SmallNets.{nets_are_small}
+use Rattle.net_column.proofs.SmallNets.{nets_are_small}
 use Rattle.tis_cli.proofs.nets.net.Goals as goal
 
 pub returns-in_err-net : goal.returns-in_err-net

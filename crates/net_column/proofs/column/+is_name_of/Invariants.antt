@@ -1,5 +1,0 @@
-use Rattle.std.proofs.Common.{length}
-use Rattle.net_column.proofs.column.+is_name_of.Given as goal
-
-abbrev pub decreases-is_name_of : goal.decreases-is_name_of
-decreases-is_name_of l = length l.processes.now

@@ -1,5 +1,0 @@
-use Rattle.std.proofs.Common.{length}
-use Rattle.net_column.proofs.column.+processes_differ.Given as goal
-
-abbrev pub decreases-processes_differ : goal.decreases-processes_differ
-decreases-processes_differ l = length l.processes.now

@@ -1,0 +1,14 @@
+-- Laws of the processes of a network.
+use Rattle.std.specs.Prelude.{ℕ, ◌<◌, ◌≤◌}
+use Rattle.net_tree.specs.Tree.{Block}
+use Rattle.net_rules.specs.Numbers.{NumberedNet}
+use Rattle.net_rules.specs.Process.{Streams, process_run}
+use Rattle.net_rules.specs.Kahn.{Inputs, steps, step_limits}
+
+-- an execution from the start begins fewer steps than it has fuel
+abbrev pub FuelBoundsSteps : Type 0
+FuelBoundsSteps = (body : Block ℕ) (streams : Streams) (fuel : ℕ) → 0 < fuel → (process_run body streams fuel).state.steps < fuel
+
+-- the processes of a network take no more steps than they may
+abbrev pub StepsWithinLimits : Type 0
+StepsWithinLimits = (net : NumberedNet) (inputs : Inputs) → steps net inputs ≤ step_limits net inputs
