@@ -8,6 +8,7 @@ use Rattle.std.proofs.lemmas.List.{length-append, drop_all}
 use Rattle.std.specs.Borrow.{Bor}
 use Rattle.tis_base.specs.Values.{Values}
 use Rattle.std.proofs.lemmas.List.Elements.{All-push}
+use Rattle.std.proofs.lemmas.Option.{same_Some}
 use Rattle.tis_base.specs.Saturation.{IsValue}
 use Rattle.net_rules.specs.Process.{Streams, with_stream}
 use Rattle.net_kahn.specs.declared.link.Link.{Link}
@@ -22,13 +23,11 @@ eqb-ne a b is same = never (sym (eq-eqb a b same) ∙ is)
 
 -- ---- lists
 
-some : {X : Type 0} (x y : X) → Some x ≡ Some y → x ≡ y
-some x y e = cc
-
-next_of : (values : List ℤ) (index : ℕ) (value : ℤ) → slice_get values index ≡ Some value → drop index values ≡ value ∷ drop (index + 1) values
+-- the elements from an index on begin with the one that stands there
+pub next_of : {X : Type 0} (values : List X) (index : ℕ) (value : X) → slice_get values index ≡ Some value → drop index values ≡ value ∷ drop (index + 1) values
 next_of [] zero value is = absurd cc
 next_of [] (suc index) value is = absurd cc
-next_of (first ∷ values) zero value is = ap (λ v. v ∷ values) (some first value is)
+next_of {X = X} (first ∷ values) zero value is = ap (λ (v : X). v ∷ values) (same_Some first value is)
 next_of (first ∷ values) (suc index) value is = next_of values index value is ∙ ap (λ n. value ∷ drop n (first ∷ values)) (more index)
   where
     more : (n : ℕ) → suc (n + 1) ≡ suc n + 1
@@ -180,7 +179,7 @@ module _ (links : List Link) (number : ℕ) (default link : Link) (within : numb
   links_set : (process : ℕ) → AreLinks process links → IsLink process link → AreLinks process new
   links_set process are is other found here =
       elim (other == number) as (λ b. (other == number) ≡ b → IsLink process found) [
-        | true ↦ λ e. subst (IsLink process) (some link found (sym (ap (λ n. slice_get new n) (eqb-true other number e) ∙ set_here links number link within) ∙ here)) is
+        | true ↦ λ e. subst (IsLink process) (same_Some link found (sym (ap (λ n. slice_get new n) (eqb-true other number e) ∙ set_here links number link within) ∙ here)) is
         | false ↦ λ e. are other found (sym (set_other links number other link (eqb-ne other number e)) ∙ here)
       ] refl
 

@@ -5,6 +5,7 @@ use Rattle.tis_grid.specs.declared.puzzle.InputAt.{InputAt}
 use Rattle.tis_grid.specs.Puzzle.{Input, input_of, values_at}
 use Rattle.std.proofs.Math.Path.{fun_ext}
 use Rattle.std.proofs.lemmas.List.{map-append, append_assoc, take_all, length-map, length-append, length-replicate}
+use Rattle.std.proofs.lemmas.Option.{same_Some}
 use Rattle.net_tree.specs.declared.tree.PortLine.{PortLine}
 use Rattle.net_tree.specs.declared.tree.Net as held_net
 use Rattle.net_tree.specs.Tree as seen
@@ -24,12 +25,9 @@ by_list values [] (suc name) = refl
 by_list values (link ∷ links) zero = refl
 by_list values (link ∷ links) (suc name) = by_list values links name
 
-some : (x y : Link) → Some x ≡ Some y → x ≡ y
-some x y e = cc
-
 -- one link more
 pub one_more : (process : ℕ) (links : List Link) (link : Link) → AreLinks process links → IsLink process link → AreLinks process (links ++ link ∷ [])
-one_more process [] link are is zero found here = subst (IsLink process) (some link found here) is
+one_more process [] link are is zero found here = subst (IsLink process) (same_Some link found here) is
 one_more process [] link are is (suc zero) found here = absurd cc
 one_more process [] link are is (suc (suc number)) found here = absurd cc
 one_more process (first ∷ links) link are is zero found here = are zero found here

@@ -7,6 +7,7 @@ use Rattle.std.proofs.lemmas.Bool.{ltb-true}
 use Rattle.std.proofs.lemmas.List.{length-map, length-append, take-append-drop, append-nil, append_assoc}
 use Rattle.std.specs.List.{position_or_len}
 use Rattle.std.proofs.lemmas.List.Elements.{All-append}
+use Rattle.std.proofs.lemmas.Option.{same_Some}
 use Rattle.tis_base.specs.Saturation.{IsValue}
 use Rattle.net_tree.specs.Tree.{Name, Statement, Get, GetAdd, GetSub, Put, PutNumber, Move, Set, Add, Sub, Neg, Double, Copy, Swap, If, While, Count, Block, Empty, Then, PortLine, ChannelLine, ProcessText, Net}
 use Rattle.net_rules.specs.Uses.{surely_reads}
@@ -18,6 +19,7 @@ use Rattle.net_rules.specs.Sure.{IsSureBlock, IsSure}
 use Rattle.net_rules.specs.Rules.{IsAccepted}
 use Rattle.net_rules.proofs.SureBodies.{IsIn}
 use Rattle.net_rules.proofs.Numbering as Numbering
+use Rattle.net_rules.proofs.CheckedNets.{names_counted}
 use Rattle.net_kahn.specs.declared.link.Link.{Link}
 use Rattle.net_kahn.specs.declared.machine.Machine.{Machine}
 use Rattle.net_kahn.specs.declared.machine.Stop.TheVariants as stops
@@ -26,6 +28,7 @@ use Rattle.net_kahn.specs.Machines.{of_link, by_number, AreLinks, state_of, IsRe
 use Rattle.net_kahn.specs.Written.{WritesBelow, StatementWritesBelow}
 use Rattle.net_kahn.specs.Found.{name_count}
 use Rattle.net_kahn.proofs.Leaves.{same_state}
+use Rattle.net_kahn.proofs.LinkReads.{next_of}
 use Rattle.net_kahn.proofs.Finishing.{streams_values}
 
 -- ---- links that a process hasn't used
@@ -107,19 +110,13 @@ process_sent index body old new process x y are did fuel waits =
 in_list : {X : Type 0} (xs : List X) (index : ℕ) (x : X) → slice_get xs index ≡ Some x → IsIn x xs
 in_list [] zero x is = absurd cc
 in_list [] (suc index) x is = absurd cc
-in_list (first ∷ xs) zero x is = inl (some first x is)
-  where
-    some : {X : Type 0} (a b : X) → Some a ≡ Some b → a ≡ b
-    some a b e = cc
+in_list (first ∷ xs) zero x is = inl (same_Some first x is)
 in_list (first ∷ xs) (suc index) x is = inr (in_list xs index x is)
 
 contained : {X : Type 0} (xs : List X) (index : ℕ) (x : X) → slice_get xs index ≡ Some x → (index < length xs) × (slice_index_or xs index x ≡ x)
 contained [] zero x is = absurd cc
 contained [] (suc index) x is = absurd cc
-contained (first ∷ xs) zero x is = (omega arith, some first x is)
-  where
-    some : {X : Type 0} (a b : X) → Some a ≡ Some b → a ≡ b
-    some a b e = cc
+contained (first ∷ xs) zero x is = (omega arith, same_Some first x is)
 contained (first ∷ xs) (suc index) x is = let rest = contained xs index x is in (omega (arith, rest.0), rest.1)
 
 mutual
@@ -170,24 +167,14 @@ mutual
 
 -- ---- numbers
 
-pub names_counted : (net : Net) → length (all_names net) ≡ name_count (numbered net)
-names_counted net =
-    omega (
-      arith,
-      length-append (map (λ (input : PortLine). input.name) net.inputs ++ map (λ (channel : ChannelLine). channel.name) net.channels) (map (λ (output : PortLine). output.name) net.outputs),
-      length-append (map (λ (input : PortLine). input.name) net.inputs) (map (λ (channel : ChannelLine). channel.name) net.channels),
-      length-map net.inputs (λ (input : PortLine). input.name),
-      length-map net.channels (λ (channel : ChannelLine). channel.name),
-      length-map net.outputs (λ (output : PortLine). output.name),
-      length-map net.inputs (λ (input : PortLine). input.position),
-      length-map net.outputs (λ (output : PortLine). output.position),
-    )
+numbers_counted : (net : Net) → length (all_names net) ≡ name_count (numbered net)
+numbers_counted net = omega (arith, names_counted net, length-map net.inputs (λ (input : PortLine). input.position), length-map net.outputs (λ (output : PortLine). output.position))
 
 number_below : (net : Net) (name : Name) → number_in net name < name_count (numbered net) + 1
 number_below net name =
     let k = position_or_len (bytes_eq name) (all_names net) in
     let n = length (all_names net) in
-    let counted = names_counted net in
+    let counted = numbers_counted net in
     elim (nat_lt k n) as (λ b. nat_lt k n ≡ b → unwrap_or (cond b (Some k) None) n < name_count (numbered net) + 1) [
       | true ↦ λ e. let less = ltb-true k n e in omega (arith, less, counted)
       | false ↦ λ e. omega (arith, counted)
@@ -239,18 +226,6 @@ pub record HasRunTo (net : NumberedNet) (start : List Link) (index : ℕ) (all :
   pub lists : streams_from net (drop index net.processes) (by_number list_of all) ≡ streams_from net net.processes (by_number list_of start)
   pub given : by_number given_of all ≡ by_number given_of start
 
-next_body : (bodies : List (Block ℕ)) (index : ℕ) (body : Block ℕ) → slice_get bodies index ≡ Some body → drop index bodies ≡ body ∷ drop (index + 1) bodies
-next_body [] zero body is = absurd cc
-next_body [] (suc index) body is = absurd cc
-next_body (first ∷ bodies) zero body is = ap (λ (b : Block ℕ). b ∷ bodies) (some first body is)
-  where
-    some : (a b : Block ℕ) → Some a ≡ Some b → a ≡ b
-    some a b e = cc
-next_body (first ∷ bodies) (suc index) body is = next_body bodies index body is ∙ ap (λ n. body ∷ drop n (first ∷ bodies)) (more index)
-  where
-    more : (n : ℕ) → suc (n + 1) ≡ suc n + 1
-    more n = omega arith
-
 pub one_ran : (net : Net) → IsAccepted net → NetHasValues net → (start : List Link) (index : ℕ) (body : Block ℕ) (old new : Machine) → slice_get (numbered net).processes index ≡ Some body → old.process ≡ suc index → old.x ≡ pos 0 → old.y ≡ pos 0 →
     HasRunTo (numbered net) start index old.links.items → Did (rounds body) old (Err stops.Waits) new → HasRunTo (numbered net) start (index + 1) new.links.items
 one_ran net accepted values start index body old new is process x y before did =
@@ -260,7 +235,7 @@ one_ran net accepted values start index body old new is process x y before did =
       count = links.count ∙ before.count;
       lists =
           ap (streams_from (numbered net) (drop (index + 1) (numbered net).processes)) (process_done net accepted values index body old new is process x y before.links did)
-          ∙ ap (λ (bodies : List (Block ℕ)). streams_from (numbered net) bodies (by_number list_of old.links.items)) (sym (next_body (numbered net).processes index body is))
+          ∙ ap (λ (bodies : List (Block ℕ)). streams_from (numbered net) bodies (by_number list_of old.links.items)) (sym (next_of (numbered net).processes index body is))
           ∙ before.lists;
       given = links.given ∙ before.given;
     }

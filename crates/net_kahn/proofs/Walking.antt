@@ -3,6 +3,7 @@ use Rattle.std.proofs.Common.{◌≡◌, ℕ, zero, suc, ◌+◌, ◌-◌, ◌<�
 use Rattle.std.specs.Prelude.{if◌then◌else◌, Option, Some, slice_get, option_map, Result, Ok, Err, ◌-ℤ◌}
 use Rattle.std.proofs.lemmas.Int.{ints, clamps}
 use Rattle.std.proofs.lemmas.List.{drop_all}
+use Rattle.std.proofs.lemmas.Option.{same_Some}
 use Rattle.tis_base.specs.Saturation.{sat, IsValue}
 use Rattle.tis_base.proofs.Saturating.{sat_is_value}
 use Rattle.net_tree.specs.declared.tree.Var.{Var}
@@ -28,9 +29,6 @@ Outcomes = Result (Unit {0}) Stop
 abbrev found : List Lined → ℕ → Option (Statement ℕ)
 found statements index = option_map (λ s. s.1) (slice_get statements index)
 
-some : {X : Type 0} (x y : X) → Some x ≡ Some y → x ≡ y
-some x y e = cc
-
 -- ---- the statement at an index
 
 nothing : (index : ℕ) (statement : Statement ℕ) → found [] index ≡ Some statement → ⊥
@@ -40,7 +38,7 @@ nothing (suc index) statement is = cc
 -- the statement at an index, and those behind it
 pub next_at : (statements : List Lined) (index : ℕ) (statement : Statement ℕ) → found statements index ≡ Some statement → (line : ℕ) × (drop index statements ≡ (line, statement) ∷ drop (index + 1) statements)
 next_at [] index statement is = absurd (nothing index statement is)
-next_at (s ∷ statements) zero statement is = (s.0, ap (λ (st : Statement ℕ). (s.0, st) ∷ statements) (some s.1 statement is))
+next_at (s ∷ statements) zero statement is = (s.0, ap (λ (st : Statement ℕ). (s.0, st) ∷ statements) (same_Some s.1 statement is))
 next_at (s ∷ statements) (suc index) statement is =
     let rest = next_at statements index statement is in
     (rest.0, rest.1 ∙ ap (λ n. (rest.0, statement) ∷ drop n (s ∷ statements)) (more index))
@@ -50,12 +48,12 @@ next_at (s ∷ statements) (suc index) statement is =
 
 pub sure_at : (CanRead : ℕ → Type 0) (block : Block ℕ) (index : ℕ) (statement : Statement ℕ) → found (statements_of block) index ≡ Some statement → IsSureBlock CanRead block → IsSure CanRead statement
 sure_at CanRead Empty index statement is sure = absurd (nothing index statement is)
-sure_at CanRead (Then line first rest) zero statement is sure = subst (λ (s : Statement ℕ). IsSure CanRead s) (some first statement is) sure.0
+sure_at CanRead (Then line first rest) zero statement is sure = subst (λ (s : Statement ℕ). IsSure CanRead s) (same_Some first statement is) sure.0
 sure_at CanRead (Then line first rest) (suc index) statement is sure = sure_at CanRead rest index statement is sure.1
 
 pub written_at : (count : ℕ) (block : Block ℕ) (index : ℕ) (statement : Statement ℕ) → found (statements_of block) index ≡ Some statement → WritesBelow count block → StatementWritesBelow count statement
 written_at count Empty index statement is written = absurd (nothing index statement is)
-written_at count (Then line first rest) zero statement is written = subst (λ (s : Statement ℕ). StatementWritesBelow count s) (some first statement is) written.0
+written_at count (Then line first rest) zero statement is written = subst (λ (s : Statement ℕ). StatementWritesBelow count s) (same_Some first statement is) written.0
 written_at count (Then line first rest) (suc index) statement is written = written_at count rest index statement is written.1
 
 block_positive : (block : Block ℕ) → 1 ≤ block_size block
@@ -67,7 +65,7 @@ pub smaller : (block : Block ℕ) (index : ℕ) (statement : Statement ℕ) → 
 smaller Empty index statement is = absurd (nothing index statement is)
 smaller (Then line first rest) zero statement is =
     let positive = block_positive rest in
-    subst (λ (s : Statement ℕ). statement_size s < statement_size first + block_size rest) (some first statement is) (omega (arith, positive))
+    subst (λ (s : Statement ℕ). statement_size s < statement_size first + block_size rest) (same_Some first statement is) (omega (arith, positive))
 smaller (Then line first rest) (suc index) statement is = let more = smaller rest index statement is in omega (arith, more)
 
 pub whole_block : (block : Block ℕ) → block_of (statements_of block) ≡ block

@@ -13,7 +13,7 @@ use Rattle.net_rules.specs.Numbers.{readable, writable}
 use Rattle.net_rules.specs.Rules.{BrokenRule, Unknown, ReadTwice, WrittenTwice, CounterChanged, Unread, Unwritten, ReadBeforeWritten, broken_where, by_line, first_among, first_fault, Kind, Input, Channel, Output, Process, Declaration, declarations, Placed, placed_in, placed_inside, placed_from, statements, is_name, is_among, isnt_among, used_elsewhere, statement_fault, is_read, is_written, unused_by, unused_fault, writer_of, is_before, reads_too_early, order_fault}
 use Rattle.net_rules.specs.Tables.{Table, value_of}
 use Rattle.net_rules.specs.Found.{Use, use_of, changes_counted, uses_in, uses_inside, uses_from}
-use Rattle.net_rules.specs.Known.{has, IsTableOf, isnt_known, is_used_among, use_fault_among, first_user, HasUsers, unused_by_tables, unused_fault_by, is_smaller, early_by_tables, order_fault_by, names_used}
+use Rattle.net_rules.specs.Known.{has, isnt_known, is_used_among, use_fault_among, first_user, HasUsers, unused_by_tables, unused_fault_by, is_smaller, early_by_tables, order_fault_by, names_used}
 use Rattle.net_rules.proofs.Sorting.{by_line_seen}
 use Rattle.net_rules.proofs.Joining.{same_reads, same_writes}
 
@@ -129,10 +129,10 @@ any_seen seen test (x ∷ xs) = ap (λ b. test (seen x) || b) (any_seen seen tes
 
 -- ---- the rule of statements
 
-module _ (net : Net) (can_read can_write : Table) (reads : IsTableOf can_read (readable net)) (writes : IsTableOf can_write (writable net)) where
-  by_names : (table : Table) (names : List Name) → IsTableOf table names → (used : Option Name) → isnt_among names used ≡ isnt_known table used
-  by_names table names is None = refl
-  by_names table names is (Some name) = ap not (sym (is name))
+module _ (net : Net) (can_read can_write : Name → Bool) (reads : (name : Name) → can_read name ≡ is_among (readable net) name) (writes : (name : Name) → can_write name ≡ is_among (writable net) name) where
+  by_names : (known : Name → Bool) (names : List Name) → ((name : Name) → known name ≡ is_among names name) → (used : Option Name) → isnt_among names used ≡ isnt_known known used
+  by_names known names is None = refl
+  by_names known names is (Some name) = ap not (sym (is name))
 
   used_seen : (use_in : Statement Name → Option Name) (use_on : Use → Option Name) → ((placed : Placed) → use_on (use_seen placed) ≡ use_in placed.statement) → (earlier : List Placed) (process : ℕ) (used : Option Name) → used_elsewhere use_in earlier process used ≡ is_used_among use_on (map use_seen earlier) process used
   used_seen use_in use_on same earlier process None = refl
@@ -245,18 +245,18 @@ module _ (net : Net) (readers writers : Table) (has_readers : HasUsers readers (
   unused_seen = first_same (unused_fault net) (unused_fault_by readers writers) (λ earlier d. unused_same d.kind d) [] (declarations net)
 
   -- the rule of the order
-  module _ (channels : Table) (has_channels : IsTableOf channels (map (λ channel. channel.name) net.channels)) where
+  module _ (is_channel : Name → Bool) (has_channels : (name : Name) → is_channel name ≡ is_among (map (λ channel. channel.name) net.channels) name) where
     before_same : (writer : Option ℕ) (process : ℕ) → is_smaller writer process ≡ is_before writer process
     before_same None process = refl
     before_same (Some number) process = refl
 
-    early_same : (process : ℕ) (used : Option Name) → reads_too_early net process used ≡ early_by_tables channels writers process used
+    early_same : (process : ℕ) (used : Option Name) → reads_too_early net process used ≡ early_by_tables is_channel writers process used
     early_same process None = refl
     early_same process (Some name) =
         ap (λ b. b && not (is_before (writer_of net name) process)) (sym (has_channels name))
-        ∙ ap (λ b. has channels name && not b) (ap (λ o. is_before o process) (position_from-zero (λ process. is_among (writes_in process.body) name) net.processes ∙ sym (writer_at name)) ∙ sym (before_same (value_of writers name) process))
+        ∙ ap (λ b. is_channel name && not b) (ap (λ o. is_before o process) (position_from-zero (λ process. is_among (writes_in process.body) name) net.processes ∙ sym (writer_at name)) ∙ sym (before_same (value_of writers name) process))
 
-    pub order_seen : first_fault (order_fault net) (statements net) ≡ first_fault (order_fault_by channels writers) (by_line (λ found. found.line) (uses_from 0 net.processes))
+    pub order_seen : first_fault (order_fault net) (statements net) ≡ first_fault (order_fault_by is_channel writers) (by_line (λ found. found.line) (uses_from 0 net.processes))
     order_seen =
-        first_seen use_seen (order_fault net) (order_fault_by channels writers) (λ earlier placed. ap (λ b. broken_where b (ReadBeforeWritten placed.line)) (early_same placed.process (read_of placed.statement))) [] (statements net)
-        ∙ ap (first_fault (order_fault_by channels writers)) (seen_by_line net)
+        first_seen use_seen (order_fault net) (order_fault_by is_channel writers) (λ earlier placed. ap (λ b. broken_where b (ReadBeforeWritten placed.line)) (early_same placed.process (read_of placed.statement))) [] (statements net)
+        ∙ ap (first_fault (order_fault_by is_channel writers)) (seen_by_line net)

@@ -22,7 +22,8 @@ last_kept result first second third fourth fifth last none sure keeps =
     let three = neither third fourth two.1 in
     keeps_behind result first _ one.0 (keeps_behind result second _ two.0 (keeps_behind result third _ three.0 (keeps_behind result fourth _ three.1 (keeps_behind result fifth _ sure keeps))))
 
-names_counted : (net : Net) → length (all_names net) ≡ length net.inputs + length net.channels + length net.outputs
+-- how many names there are
+pub names_counted : (net : Net) → length (all_names net) ≡ length net.inputs + length net.channels + length net.outputs
 names_counted net =
     omega (
       arith,

@@ -1,7 +1,7 @@
 -- How many statements a block has, counted by a walk through it.
-use Rattle.std.proofs.Common.{◌≡◌, ◌≤◌, ◌<◌, ℕ, ◌+◌, ◌-◌, ◌^◌, List, [], ◌∷◌, length, drop, map, get_or, refl, sym, ap, ◌∙◌, arith}
+use Rattle.std.proofs.Common.{◌≡◌, ◌≤◌, ◌<◌, ℕ, ◌+◌, ◌-◌, ◌^◌, List, length, drop, map, get_or, refl, sym, ap, ◌∙◌, arith}
 use Rattle.std.specs.Prelude.{Some, slice_get, option_map, sum_by}
-use Rattle.std.proofs.lemmas.List.{drop_all, length-map, drop_more}
+use Rattle.std.proofs.lemmas.List.{drop_all, drop_more}
 use Rattle.std.proofs.lemmas.List.Sums.{sum_by-cons}
 use Rattle.net_tree.specs.declared.tree.ProcessText as held_process
 use Rattle.net_tree.specs.Tree.{Statement, Block, Empty, Then, statements_of, ProcessText}

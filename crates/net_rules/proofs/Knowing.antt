@@ -1,39 +1,16 @@
--- What the tables say of names and of the statements before.
-use Rattle.std.proofs.Common.{◌≡◌, ◌<◌, ℕ, ◌+◌, Bool, true, false, cond, List, [], ◌∷◌, length, map, drop, get_or, Option, Some, None, refl, sym, ap, ◌∙◌}
+-- What the tables say of the statements before.
+use Rattle.std.proofs.Common.{◌≡◌, ℕ, Bool, true, false, cond, List, [], ◌∷◌, Option, Some, None, refl, sym, ap, ◌∙◌}
 use Rattle.std.specs.Prelude.{◌||◌, ◌&&◌, not, ◌==◌}
-use Rattle.std.specs.Option.{is_some, option_or}
-use Rattle.std.specs.Str.{bytes_eq}
-use Rattle.std.proofs.lemmas.List.{drop_more}
+use Rattle.std.specs.Option.{option_or}
 use Rattle.std.proofs.Common.{arith}
 use Rattle.std.proofs.lemmas.Bool.Decides.{nat_tests}
 use Rattle.net_tree.specs.Tree.{Name}
 use Rattle.std.specs.Cmp.Lexicographic.{bytes_decides}
-use Rattle.net_rules.specs.Rules.{BrokenRule, Unknown, ReadTwice, WrittenTwice, CounterChanged, broken_where, is_name, is_among}
+use Rattle.net_rules.specs.Rules.{BrokenRule, Unknown, ReadTwice, WrittenTwice, CounterChanged, broken_where, is_name}
 use Rattle.net_rules.proofs.SureBodies.{neither, no_test}
 use Rattle.net_rules.specs.Tables.{Table, value_of}
 use Rattle.net_rules.specs.Found.{Use}
-use Rattle.net_rules.specs.Known.{has, is_other, is_used_by_other, is_used_elsewhere, is_used_among, isnt_known, KnowsUsers, IsNoted, use_fault, use_fault_among}
-
--- a name that was set, and the others
-has_set : (test : Bool) (number : ℕ) (old : Option ℕ) → is_some (cond test (Some number) old) ≡ (test || is_some old)
-has_set true number old = refl
-has_set false number old = refl
-
-moved_in : (a b c : Bool) → ((a || b) || c) ≡ (b || (a || c))
-moved_in true true c = refl
-moved_in true false c = refl
-moved_in false true c = refl
-moved_in false false c = refl
-
--- one more name is in the table
-pub taken_more : {H X : Type 0} (view : H → X) (name_of : X → Name) (items : List H) (index : ℕ) (item : H) (old new : Table) (name : Name) (whole : Bool) (number : ℕ) → whole ≡ (is_among (map name_of (map view (drop index items))) name || has old name) → index < length items → item ≡ get_or items index item →
-    value_of new name ≡ cond (bytes_eq name (name_of (view item))) (Some number) (value_of old name) → whole ≡ (is_among (map name_of (map view (drop (index + 1) items))) name || has new name)
-taken_more view name_of items index item old new name whole number so within is set =
-    let rest : Bool = is_among (map name_of (map view (drop (index + 1) items))) name in
-    so ∙ ap (λ l. is_among (map name_of (map view l)) name || has old name) (drop_more items index item within)
-    ∙ ap (λ x. (bytes_eq name (name_of (view x)) || rest) || has old name) (sym is)
-    ∙ moved_in (bytes_eq name (name_of (view item))) rest (has old name)
-    ∙ ap (λ b. rest || b) (sym (has_set (bytes_eq name (name_of (view item))) number (value_of old name)) ∙ ap is_some (sym set))
+use Rattle.net_rules.specs.Known.{is_other, is_used_by_other, is_used_elsewhere, is_used_among, isnt_known, KnowsUsers, IsNoted, use_fault, use_fault_among}
 
 -- ---- users
 
@@ -81,7 +58,7 @@ by_table : (use_of : Use → Option Name) (table : Table) (earlier : List Use) �
 by_table use_of table earlier knows process None = refl
 by_table use_of table earlier knows process (Some name) = knows process name
 
-module _ (readable writable readers writers : Table) (earlier : List Use) (knows : KnowsUsers readers writers earlier) (found : Use) where
+module _ (readable writable : Name → Bool) (readers writers : Table) (earlier : List Use) (knows : KnowsUsers readers writers earlier) (found : Use) where
   pub same_fault : use_fault_among readable writable earlier found ≡ use_fault readable writable readers writers found
   same_fault =
       let rest : Option BrokenRule = broken_where found.changes (CounterChanged found.line) in

@@ -21,6 +21,8 @@ mod Members
 mod Joining
 mod NumberingBlocks
 mod Keeping
-mod CheckedNets
+pub mod CheckedNets
+mod Apart
+mod Ranges
 mod ByTables
 mod Examples

@@ -25,7 +25,7 @@ module _ {H X : Type 0} (view : H → X) (name_of : X → Name) (items : List H)
   numbered_all table name whole number so past = sym (so ∙ ap (λ l. option_or (value_of table name) (position_from (bytes_eq name) number (map name_of (map view l)))) (drop_all index items past) ∙ nothing_behind (value_of table name))
 
 -- the place in two lists, one behind the other
-from_both : (test : Name → Bool) (number count : ℕ) (one other : List Name) → length one ≡ count → option_or (position_from test number one) (position_from test (number + count) other) ≡ position_from test number (one ++ other)
+pub from_both : (test : Name → Bool) (number count : ℕ) (one other : List Name) → length one ≡ count → option_or (position_from test number one) (position_from test (number + count) other) ≡ position_from test number (one ++ other)
 from_both test number count [] other is = let same : number + count ≡ number = omega (arith, is) in ap (λ n. position_from test n other) same
 from_both test number count (x ∷ one) other is =
     let behind : number + count ≡ number + 1 + length one = omega (arith, is) in

@@ -1,5 +1,5 @@
 -- What the rules know of the lines before: from tables of names, without looking at all pairs.
-use Rattle.std.specs.Prelude.{◌≡◌, ℕ, ◌+◌, ◌^◌, ◌<◌, ◌++◌, length, unwrap_or, Bool, false, ◌&&◌, not, List, [], ◌∷◌, Option, Some, None, ◌==◌, nat_lt, slice_index_or, if◌then◌else◌}
+use Rattle.std.specs.Prelude.{◌≡◌, ℕ, ◌+◌, ◌^◌, ◌<◌, ◌++◌, length, unwrap_or, Bool, false, ◌&&◌, not, List, [], ◌∷◌, Option, Some, None, ◌==◌, nat_lt, nat_le, slice_index_or, if◌then◌else◌}
 use Rattle.std.specs.List.{list_any}
 use Rattle.std.specs.Option.{is_some, option_or}
 use Rattle.std.specs.Str.{bytes_eq}
@@ -8,7 +8,9 @@ use Rattle.net_rules.specs.Uses.{as_list}
 use Rattle.net_rules.specs.declared.declarations.Kind as held_kind
 use Rattle.net_rules.specs.declared.declarations.Kind.TheVariants as kinds
 use Rattle.net_rules.specs.declared.declarations.Declaration as held
-use Rattle.net_rules.specs.Rules.{BrokenRule, Unknown, ReadTwice, WrittenTwice, CounterChanged, Unread, Unwritten, ReadBeforeWritten, broken_where, Kind, Input, Channel, Output, Process, Declaration, is_process, share_place, is_name, is_among}
+use Rattle.net_rules.specs.declared.numbers.Numbers as held_numbers
+use Rattle.net_rules.specs.Numbers.{number_of}
+use Rattle.net_rules.specs.Rules.{BrokenRule, Unknown, ReadTwice, WrittenTwice, CounterChanged, Unread, Unwritten, ReadBeforeWritten, broken_where, Kind, Input, Channel, Output, Process, Declaration, is_process, share_place, is_name}
 use Rattle.net_rules.specs.Tables.{Table, value_of}
 use Rattle.net_rules.specs.Found.{Use}
 
@@ -35,16 +37,38 @@ pub record KnowsDeclared (named running : Table) (ins outs : List Bool) (earlier
   pub inputs : (position : ℕ) → position < 256 → slice_index_or ins position false ≡ list_any (λ other. share_place other.kind (Input position)) earlier
   pub outputs : (position : ℕ) → position < 256 → slice_index_or outs position false ≡ list_any (λ other. share_place other.kind (Output position)) earlier
 
+-- ---- names by their numbers
+
+-- a number from this one on and below that
+abbrev pub is_within : ℕ → ℕ → Option ℕ → Bool
+is_within first past None = false
+is_within first past (Some number) = nat_le first number && nat_lt number past
+
+-- a name has a number of an input or a channel
+abbrev pub can_read : held_numbers.Numbers → Name → Bool
+can_read numbers name = is_within 0 numbers.outputs (value_of numbers.table.now name)
+
+-- a name has a number of a channel or an output
+abbrev pub can_write : held_numbers.Numbers → Name → Bool
+can_write numbers name = is_within numbers.channels numbers.other (value_of numbers.table.now name)
+
+-- a name has a number of a channel
+abbrev pub names_channel : held_numbers.Numbers → Name → Bool
+names_channel numbers name = is_within numbers.channels numbers.outputs (value_of numbers.table.now name)
+
+-- the names of a network have their numbers, and those of channels and of outputs begin where they do
+pub record IsNumbered (numbers : held_numbers.Numbers) (net : Net) : Type 0 where
+  pub names : (name : Name) → value_of numbers.table.now name ≡ number_of net name
+  pub channels : numbers.channels ≡ length net.inputs
+  pub outputs : numbers.outputs ≡ length net.inputs + length net.channels
+  pub other : numbers.other ≡ length net.inputs + length net.channels + length net.outputs
+
 -- ---- statements
 
--- the table has these names and no others
-abbrev pub IsTableOf : Table → List Name → Type 0
-IsTableOf table names = (name : Name) → has table name ≡ is_among names name
-
--- a name, where there is one, isn't in a table
-abbrev pub isnt_known : Table → Option Name → Bool
-isnt_known table None = false
-isnt_known table (Some name) = not (has table name)
+-- a name, where there is one, isn't known
+abbrev pub isnt_known : (Name → Bool) → Option Name → Bool
+isnt_known known None = false
+isnt_known known (Some name) = not (known name)
 
 -- the process that uses a name isn't this one
 abbrev pub is_other : Option ℕ → ℕ → Bool
@@ -69,8 +93,8 @@ pub record KnowsUsers (reading writing : Table) (earlier : List Use) : Type 0 wh
 abbrev pub IsNoted : Table → Table → Option Name → ℕ → Type 0
 IsNoted old new used process = (name : Name) → value_of new name ≡ (if is_name name used then Some process else value_of old name)
 
--- what is wrong with a statement, by the tables of the names that can be read and written, and of the users before
-abbrev pub use_fault : Table → Table → Table → Table → Use → Option BrokenRule
+-- what is wrong with a statement, by which names can be read and written, and by the tables of the users before
+abbrev pub use_fault : (Name → Bool) → (Name → Bool) → Table → Table → Use → Option BrokenRule
 use_fault readable writable readers writers found =
     option_or (broken_where (isnt_known readable found.read) (Unknown found.line))
     (option_or (broken_where (isnt_known writable found.written) (Unknown found.line))
@@ -84,7 +108,7 @@ is_used_among use_of earlier process None = false
 is_used_among use_of earlier process (Some name) = is_used_elsewhere use_of earlier process name
 
 -- the same, by the statements before themselves
-abbrev pub use_fault_among : Table → Table → List Use → Use → Option BrokenRule
+abbrev pub use_fault_among : (Name → Bool) → (Name → Bool) → List Use → Use → Option BrokenRule
 use_fault_among readable writable earlier found =
     option_or (broken_where (isnt_known readable found.read) (Unknown found.line))
     (option_or (broken_where (isnt_known writable found.written) (Unknown found.line))
@@ -115,16 +139,16 @@ abbrev pub is_smaller : Option ℕ → ℕ → Bool
 is_smaller None process = false
 is_smaller (Some writer) process = nat_lt writer process
 
--- a channel is read before it is written, by the tables of channels and writers
-abbrev pub early_by_tables : Table → Table → ℕ → Option Name → Bool
-early_by_tables channels writers process None = false
-early_by_tables channels writers process (Some name) = has channels name && not (is_smaller (value_of writers name) process)
+-- a channel is read before it is written, by which names are channels and by the table of writers
+abbrev pub early_by_tables : (Name → Bool) → Table → ℕ → Option Name → Bool
+early_by_tables is_channel writers process None = false
+early_by_tables is_channel writers process (Some name) = is_channel name && not (is_smaller (value_of writers name) process)
 
 abbrev pub unused_fault_by : Table → Table → List Declaration → Declaration → Option BrokenRule
 unused_fault_by readers writers earlier d = unused_by_tables readers writers d d.kind
 
-abbrev pub order_fault_by : Table → Table → List Use → Use → Option BrokenRule
-order_fault_by channels writers earlier found = broken_where (early_by_tables channels writers found.process found.read) (ReadBeforeWritten found.line)
+abbrev pub order_fault_by : (Name → Bool) → Table → List Use → Use → Option BrokenRule
+order_fault_by is_channel writers earlier found = broken_where (early_by_tables is_channel writers found.process found.read) (ReadBeforeWritten found.line)
 
 -- ---- numbers
 

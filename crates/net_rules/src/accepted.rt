@@ -1,11 +1,11 @@
 //! Networks that keep the rules.
-ghost use Rattle.std.specs.Prelude.{◌≡◌, ◌<◌, ◌↔◌, ℕ, List, length, slice_get, Some, map, IsTrue};
+ghost use Rattle.std.specs.Prelude.{◌≡◌, ◌<◌, ◌↔◌, length, slice_get, Some, map, IsTrue};
 ghost use Rattle.net_tree.specs.View.{net_view};
 ghost use Rattle.net_numbered.specs.View.{numbered_block};
 ghost use Rattle.net_rules.specs.Broken.{Keeps};
 ghost use Rattle.net_rules.specs.Rules.{first_broken};
-ghost use Rattle.net_rules.specs.Numbers.{number_of, number_in, numbered};
-ghost use Rattle.net_rules.specs.Known.{number_by};
+ghost use Rattle.net_rules.specs.Numbers.{number_of, numbered};
+ghost use Rattle.net_rules.specs.Known.{IsNumbered};
 ghost use Rattle.net_rules.specs.CheckedNet.{IsSmallNet, net_of, IsChecked, Checks};
 
 use crate::error::RuleError;
@@ -13,7 +13,7 @@ use crate::joins::check_joins;
 use crate::lines::check_lines;
 use crate::names::NameTable;
 use crate::numbered::number_processes;
-use crate::numbers::{Numbers, number_names};
+use crate::numbers::{Numbers, number_names, numbers_of};
 use crate::sizes::statement_count;
 use crate::turns::sure_reads;
 use net_numbered::NumberedBlock;
@@ -34,11 +34,11 @@ pub struct Checked<'n> {
 // Whether a network keeps each rule, where these are the numbers of its names.
 fn check_rules(alloc: Global, net: &Net, numbers: Numbers) -> Result<(), RuleError>
     requires small { IsSmallNet (net_view net.now) }
-    requires numbers { (name : List ℕ) → number_by numbers.table.now numbers.other name ≡ number_in (net_view net.now) name }
+    requires numbers { IsNumbered numbers (net_view net.now) }
     ensures { Keeps result (first_broken (net_view net.now)) }
 {
     let processes = net.processes.as_slice();
-    check_lines(alloc, net)?;
+    check_lines(alloc, net, numbers)?;
     if let Some(error) = sure_reads(processes) {
         return Err(error);
     }
@@ -65,11 +65,7 @@ pub fn check(alloc: Global, net: &Net) -> Result<Checked<'_>, RuleError>
     ensures { Checks result (net_view net.now) }
 {
     let table = number_names(alloc, net)?;
-    let other = (net.inputs.len() + net.channels.len() + net.outputs.len()) as u32;
-    let numbers = Numbers {
-        table: &table,
-        other,
-    };
+    let numbers = numbers_of(net, &table);
     check_rules(alloc, net, numbers)?;
     let processes = number_processes(alloc, numbers, net.processes.as_slice())?;
     Ok(Checked {

@@ -9,6 +9,7 @@ ghost use Rattle.net_rules.specs.Rules.{Repeated, SamePlace, broken_where, by_li
 ghost use Rattle.net_rules.specs.Known.{declaration_view, has, KnowsDeclared};
 
 use crate::error::RuleError;
+use crate::known::forbid;
 use crate::names::NameTable;
 use net_tree::{ChannelLine, Name, Net, PortLine, ProcessText};
 use std::alloc::Global;
@@ -135,13 +136,13 @@ fn take_name<'n>(taken: &mut NameTable<'n>, declaration: &Declaration<'n>) -> Re
     ensures fault { Keeps result (broken_where (has taken.old declaration.now.name.now) (Repeated declaration.now.line)) }
     ensures taken { OnOk result ((name : List ℕ) → has taken.new name ≡ (bytes_eq name declaration.now.name.now || has taken.old name)) }
 {
-    if taken.get(declaration.name).is_some() {
-        return Err(RuleError::Repeated {
+    let before = taken.replace(declaration.name, 0)?;
+    forbid(
+        before.is_some(),
+        RuleError::Repeated {
             line: declaration.line,
-        });
-    }
-    taken.set(declaration.name, 0)?;
-    Ok(())
+        },
+    )
 }
 
 // A position that isn't taken is taken from now on.

@@ -5,11 +5,12 @@ ghost use Rattle.net_tree.specs.View.{net_view, process_view};
 ghost use Rattle.net_rules.specs.Broken.{Keeps};
 ghost use Rattle.net_rules.specs.Rules.{by_line, first_fault, declarations as declarations_of, statements, declaration_fault, statement_fault, unused_fault, order_fault};
 ghost use Rattle.net_rules.specs.Found.{use_view, uses_from};
-ghost use Rattle.net_rules.specs.Known.{declaration_view, HasUsers};
+ghost use Rattle.net_rules.specs.Known.{declaration_view, HasUsers, IsNumbered};
 
 use crate::declarations::{Declaration, check_declarations, declarations};
 use crate::error::RuleError;
-use crate::known::{check_statements, names_of};
+use crate::known::check_statements;
+use crate::numbers::Numbers;
 use crate::statements::{Use, sort_uses, uses_of_all};
 use crate::used::{FirstUsers, check_order, check_used, first_users};
 use net_tree::Net;
@@ -43,38 +44,17 @@ fn lines_of(alloc: Global, net: &Net) -> Result<Lines<'_>, NoMemory>
     })
 }
 
-// The rule of statements.
-fn check_uses(alloc: Global, net: &Net, uses: &[Use]) -> Result<(), RuleError>
-    requires { map use_view uses.now ≡ by_line (λ found. found.line) (uses_from 0 (net_view net.now).processes) }
-    ensures { Keeps result (first_fault (statement_fault (net_view net.now)) (statements (net_view net.now))) }
-{
-    let channels = net.channels.as_slice();
-    let readable = names_of(alloc, net.inputs.as_slice(), channels)?;
-    let writable = names_of(alloc, net.outputs.as_slice(), channels)?;
-    check_statements(alloc, &readable, &writable, uses)
-}
-
-// The rule that the writer of a channel stands before its reader.
-fn check_reads(alloc: Global, net: &Net, users: &FirstUsers, uses: &[Use]) -> Result<(), RuleError>
-    requires uses { map use_view uses.now ≡ by_line (λ found. found.line) (uses_from 0 (net_view net.now).processes) }
-    requires readers { HasUsers users.now.readers (λ found. found.read) (uses_from 0 (net_view net.now).processes) }
-    requires writers { HasUsers users.now.writers (λ found. found.written) (uses_from 0 (net_view net.now).processes) }
-    ensures { Keeps result (first_fault (order_fault (net_view net.now)) (statements (net_view net.now))) }
-{
-    let channels = names_of(alloc, &[], net.channels.as_slice())?;
-    check_order(&channels, &users.writers, uses)
-}
-
 /// The rules that look at the lines of a network in their order.
-pub(crate) fn check_lines(alloc: Global, net: &Net) -> Result<(), RuleError>
-    requires { length net.now.processes.items < 2 ^ 32 }
+pub(crate) fn check_lines(alloc: Global, net: &Net, numbers: Numbers) -> Result<(), RuleError>
+    requires processes { length net.now.processes.items < 2 ^ 32 }
+    requires numbers { IsNumbered numbers (net_view net.now) }
     ensures { let seen = net_view net.now in Keeps result (option_or (first_fault declaration_fault (declarations_of seen)) (option_or (first_fault (statement_fault seen) (statements seen)) (option_or (first_fault (unused_fault seen) (declarations_of seen)) (first_fault (order_fault seen) (statements seen))))) }
 {
     let lines = lines_of(alloc, net)?;
     let declared = lines.declared.as_slice();
     let uses = lines.uses.as_slice();
     check_declarations(alloc, declared)?;
-    check_uses(alloc, net, uses)?;
+    check_statements(alloc, numbers, uses)?;
     check_used(&lines.users, declared)?;
-    check_reads(alloc, net, &lines.users, uses)
+    check_order(numbers, &lines.users.writers, uses)
 }

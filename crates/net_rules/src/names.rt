@@ -1,5 +1,5 @@
 //! Numbers under names.
-ghost use Rattle.std.specs.Prelude.{◌≡◌, ℕ, List, [], OnOk, Some, if◌then◌else◌};
+ghost use Rattle.std.specs.Prelude.{◌≡◌, ℕ, List, [], IfOk, OnOk, Some, if◌then◌else◌};
 ghost use Rattle.std.specs.Str.{bytes_eq};
 ghost use Rattle.net_rules.specs.Tables.{value_of};
 
@@ -41,11 +41,20 @@ impl<'n> NameTable<'n> {
         self.numbers.get(&name.bytes()).copied()
     }
 
+    /// A name gets a number in place of the one that it has, which comes back.
+    pub(crate) fn replace(&mut self, name: &'n Name, number: u32) -> Result<Option<u32>, NoMemory>
+        ensures before { IfOk result (λ before. before ≡ value_of self.old name.now) }
+        ensures set { OnOk result ((other : List ℕ) → value_of self.new other ≡ (if bytes_eq other name.now then Some number else value_of self.old other)) }
+    {
+        let before = self.numbers.insert(name.bytes(), number)?;
+        Ok(before)
+    }
+
     /// A name gets a number in place of the one that it has.
     pub(crate) fn set(&mut self, name: &'n Name, number: u32) -> Result<(), NoMemory>
         ensures { OnOk result ((other : List ℕ) → value_of self.new other ≡ (if bytes_eq other name.now then Some number else value_of self.old other)) }
     {
-        self.numbers.insert(name.bytes(), number)?;
+        self.replace(name, number)?;
         Ok(())
     }
 }

@@ -5,12 +5,13 @@ ghost use Rattle.net_rules.specs.Broken.{Keeps};
 ghost use Rattle.net_rules.specs.Rules.{ReadBeforeWritten, broken_where, first_fault, is_name};
 ghost use Rattle.net_rules.specs.Found.{use_view};
 ghost use Rattle.net_rules.specs.Tables.{value_of};
-ghost use Rattle.net_rules.specs.Known.{declaration_view, HasUsers, unused_by_tables, is_smaller, early_by_tables, unused_fault_by, order_fault_by};
+ghost use Rattle.net_rules.specs.Known.{declaration_view, HasUsers, unused_by_tables, is_smaller, early_by_tables, unused_fault_by, names_channel, order_fault_by};
 
 use crate::declarations::{Declaration, Kind};
 use crate::error::RuleError;
 use crate::known::forbid;
 use crate::names::NameTable;
+use crate::numbers::Numbers;
 use crate::statements::Use;
 use net_tree::Name;
 use std::alloc::Global;
@@ -24,7 +25,7 @@ pub(crate) struct FirstUsers<'n> {
 }
 
 // A process is the first user of a name, where there is no earlier one.
-pub(crate) fn note_first<'n>(
+fn note_first<'n>(
     users: &mut NameTable<'n>,
     used: Option<&'n Name>,
     process: u32,
@@ -95,14 +96,14 @@ fn is_before(writer: Option<u32>, process: u32) -> bool
 }
 
 // Whether a statement reads a channel that is written before.
-fn check_read(channels: &NameTable, writers: &NameTable, found: &Use) -> Result<(), RuleError>
-    ensures { Keeps result (broken_where (early_by_tables channels.now writers.now found.now.process (use_view found.now).read) (ReadBeforeWritten found.now.line)) }
+fn check_read(numbers: Numbers, writers: &NameTable, found: &Use) -> Result<(), RuleError>
+    ensures { Keeps result (broken_where (early_by_tables (names_channel numbers.entry) writers.now found.now.process (use_view found.now).read) (ReadBeforeWritten found.now.line)) }
 {
     let line = found.line;
     match found.read {
         None => Ok(()),
         Some(name) => {
-            let is_channel = channels.get(name).is_some();
+            let is_channel = numbers.is_channel(name);
             let before = is_before(writers.get(name), found.process);
             forbid(is_channel && !before, RuleError::ReadBeforeWritten { line })
         }
@@ -111,14 +112,14 @@ fn check_read(channels: &NameTable, writers: &NameTable, found: &Use) -> Result<
 
 /// The rule that the writer of each channel stands before its reader, in line order.
 pub(crate) fn check_order(
-    channels: &NameTable,
+    numbers: Numbers,
     writers: &NameTable,
     uses: &[Use],
 ) -> Result<(), RuleError>
-    ensures { Keeps result (first_fault (order_fault_by channels.now writers.now) (map use_view uses.now)) }
+    ensures { Keeps result (first_fault (order_fault_by (names_channel numbers.entry) writers.now) (map use_view uses.now)) }
 {
     'uses: for found in uses {
-        check_read(channels, writers, found)?;
+        check_read(numbers, writers, found)?;
     }
     Ok(())
 }

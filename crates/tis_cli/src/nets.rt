@@ -1,8 +1,7 @@
 //! The streams of a network over the inputs of a grid text.
-ghost use Rattle.std.specs.Prelude.{◌≡◌, ◌++◌, flat_map, OnOk};
+ghost use Rattle.std.specs.Prelude.{◌≡◌, ◌++◌, OnOk};
 ghost use Rattle.tis_base.specs.Answers.{Gives};
 ghost use Rattle.tis_grid.specs.Puzzle.{puzzle_of};
-ghost use Rattle.tis_report.specs.Outputs.{value_text, stream_text};
 ghost use Rattle.net_tree.specs.View.{net_view};
 ghost use Rattle.net_rules.specs.CheckedNet.{IsSmallNet};
 ghost use Rattle.net_rules.specs.Numbers.{numbered};
@@ -17,31 +16,10 @@ use net_rules::check;
 use net_syntax::{read_net, read_networks_are_derived};
 use net_tree::Net;
 use std::alloc::Global;
-use tis_base::{NoMemory, Values};
+use tis_base::NoMemory;
 use tis_grid::Puzzle;
 use tis_grid_text::read_grid;
-use tis_report::{push_count, push_value};
-
-// Writes values, each behind a blank.
-fn push_values(text: &mut Vec<u8>, values: &Values) -> Result<(), NoMemory>
-    ensures { OnOk result (text.new.items ≡ text.old.items ++ flat_map value_text values.now.items) }
-{
-    for index in 0..values.len() {
-        push_value(text, values.at(index))?;
-    }
-    Ok(())
-}
-
-// Writes the line of an output.
-fn push_stream(text: &mut Vec<u8>, position: u8, values: &Values) -> Result<(), NoMemory>
-    ensures { OnOk result (text.new.items ≡ text.old.items ++ stream_text position values.now.items) }
-{
-    text.extend_from_slice(b"out ")?;
-    push_count(text, u64::from(position))?;
-    push_values(text, values)?;
-    text.push(b'\n')?;
-    Ok(())
-}
+use tis_report::push_stream;
 
 // Writes the line of the output at a position, where the network has one there.
 fn push_line(text: &mut Vec<u8>, found: &KahnStreams, position: u8) -> Result<(), NoMemory>

@@ -6,7 +6,7 @@
 //! output that keeps its values is a line `out P` with them; one that draws is a line `image P` and the picture,
 //! eighteen lines of thirty digits. [`ended_report`] is that of a run to rest or to its limit,
 //! [`replayed_report`] and [`not_enabled_report`] are those of an order that was handed in. [`push_outputs`],
-//! [`push_value`] and [`push_count`] write the parts that other reports share.
+//! [`push_stream`], [`push_value`] and [`push_count`] write the parts that other reports share.
 //!
 //! # What the crates above use
 //!
@@ -38,7 +38,7 @@ mod stream;
 pub use count::push_count;
 pub use outputs::push_outputs;
 pub use report::{ended_report, not_enabled_report, replayed_report};
-pub use stream::push_value;
+pub use stream::{push_stream, push_value};
 
 #[cfg(test)]
 mod tests;

@@ -31,7 +31,7 @@ fn push_values(out: &mut Vec<u8>, values: &Values) -> Result<(), NoMemory>
 }
 
 /// Writes the line of an output that has taken these values, or none yet.
-pub(crate) fn push_stream(out: &mut Vec<u8>, position: u8, values: &Values) -> Result<(), NoMemory>
+pub fn push_stream(out: &mut Vec<u8>, position: u8, values: &Values) -> Result<(), NoMemory>
     ensures { OnOk result (out.new.items ≡ out.old.items ++ stream_text position values.now.items) }
 {
     push_head(out, b"out ", position)?;

@@ -1,8 +1,7 @@
-use Rattle.std.proofs.Common.{◌+◌, map, refl, ap, subst, ◌∙◌, arith}
+use Rattle.std.proofs.Common.{map, refl, ap, subst, ◌∙◌}
 use Rattle.std.specs.Prelude.{All}
-use Rattle.std.proofs.lemmas.List.{length-map}
 use Rattle.net_tree.specs.Tree.{ProcessText}
-use Rattle.net_tree.specs.View.{net_view, process_view, port_view, channel_view}
+use Rattle.net_tree.specs.View.{net_view, process_view}
 use Rattle.net_rules.specs.Numbers.{block_with}
 use Rattle.net_rules.specs.Sure.{HasValues}
 use Rattle.net_rules.specs.Known.{number_by}
@@ -12,11 +11,11 @@ use Rattle.net_rules.proofs.accepted.check.Goals as goal
 pub returns : goal.returns
 returns c =
     let net = net_view c.args.net.now in
-    let table = c.in_ok-table.table in
-    let other = c.len.result + c.len-2.result + c.len-3.result in
+    let table = c.numbers_of-numbers.result.table.now in
+    let other = c.numbers_of-numbers.result.other in
     let f = number_by table other in
     let slice = c.as_slice.ensures.value in
-    let same = same_numbers net table other c.in_ok-table.ensures (omega (arith, length-map c.args.net.now.inputs.items port_view, length-map c.args.net.now.channels.items channel_view, length-map c.args.net.now.outputs.items port_view, c.len.ensures, c.len-2.ensures, c.len-3.ensures)) in (
+    let same = same_numbers net table other c.numbers_of-numbers.ensures.names c.numbers_of-numbers.ensures.other in (
       record {
         accepted = c.in_ok-check_rules.ensures;
         values = subst (λ l. All (λ (p : ProcessText). HasValues p.body) (map process_view l)) slice c.in_ok-processes.ensures.values;

@@ -8,7 +8,7 @@ pub channels-preserved : goal.channels-preserved
 channels-preserved c =
     record {
       counts = omega (arith, c.channels.invariant.counts);
-      same = λ (name : List ℕ). numbered_more channel_view (λ (p : ChannelLine). p.name) c.args.channels.now c.channels.channel-index c.channel-item.result _ _ name _ c.channels.number (c.channels.invariant.same name) (omega arith) c.channel-item.is (c.in_ok-note_first.ensures name);
+      same = λ (name : List ℕ). numbered_more channel_view (λ (p : ChannelLine). p.name) c.args.channels.now c.channels.channel-index c.channel-item.result _ _ name _ c.channels.number (c.channels.invariant.same name) (omega arith) c.channel-item.is (c.in_ok-number_name.ensures name);
     }
 
 pub returns : goal.returns

@@ -8,7 +8,7 @@ pub ports-preserved : goal.ports-preserved
 ports-preserved c =
     record {
       counts = omega (arith, c.ports.invariant.counts);
-      same = λ (name : List ℕ). numbered_more port_view (λ (p : PortLine). p.name) c.args.ports.now c.ports.port-index c.port-item.result _ _ name _ c.ports.number (c.ports.invariant.same name) (omega arith) c.port-item.is (c.in_ok-note_first.ensures name);
+      same = λ (name : List ℕ). numbered_more port_view (λ (p : PortLine). p.name) c.args.ports.now c.ports.port-index c.port-item.result _ _ name _ c.ports.number (c.ports.invariant.same name) (omega arith) c.port-item.is (c.in_ok-number_name.ensures name);
     }
 
 pub returns : goal.returns

@@ -1,9 +1,9 @@
 use Rattle.std.proofs.Common.{◌<◌, ◌≤◌, ℕ, length, subst}
 use Rattle.net_tree.specs.Tree.{statements_of}
 use Rattle.net_tree.specs.View.{block_view, statement_view}
-use Rattle.net_rules.specs.Sizes.{block_size, statement_size, statements_in}
+use Rattle.net_rules.specs.Sizes.{block_size, statement_size}
 use Rattle.net_rules.proofs.Walks.{smaller}
-use Rattle.net_rules.proofs.Counting.{counted, counted_of, counts_start, statement_counted, block_counted}
+use Rattle.net_rules.proofs.Counting.{counted_of, counts_start, statement_counted, block_counted}
 use Rattle.net_rules.proofs.sizes.+sizes.Goals as goal
 
 pub statements_in-statements_inside-inside-requires : goal.statements_in-statements_inside-inside-requires

@@ -1,4 +1,4 @@
-use Rattle.std.proofs.Common.{ap, drop, refl, arith}
+use Rattle.std.proofs.Common.{ap, refl, arith}
 use Rattle.std.proofs.lemmas.List.{drop_all}
 use Rattle.net_tree.specs.View.{block_view}
 use Rattle.net_rules.specs.Sizes.{statements_in}
