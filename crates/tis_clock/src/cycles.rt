@@ -163,8 +163,32 @@ pub fn make_room(state: &mut State) -> Result<(), NoMemory>
     state.reserve(1)
 }
 
+// Makes room for one more value of each output where none is known, and gives for how many there is some.
+#[inline(always)]
+fn keep_room(state: &mut State, room: usize) -> Result<usize, NoMemory>
+    requires { HasRoomEach state.old room }
+    ensures state { state.new.state ≡ state.old.state }
+    ensures some { IfOk result (λ room. 1 ≤ room) }
+    ensures room { IfOk result (λ room. HasRoomEach state.new room) }
+{
+    if 0 < room {
+        return Ok(room);
+    }
+    find_room(state)
+}
+
+// Makes room for one more value of each output, and gives for how many there is some.
+fn find_room(state: &mut State) -> Result<usize, NoMemory>
+    ensures state { state.new.state ≡ state.old.state }
+    ensures some { IfOk result (λ room. 1 ≤ room) }
+    ensures room { IfOk result (λ room. HasRoomEach state.new room) }
+{
+    make_room(state)?;
+    Ok(state.spare().max(1))
+}
+
 /// The same, and makes room for more values of the outputs where one has none left. Where memory runs out, some of
-/// the cycles were done.
+/// the cycles were done. How much room there is is counted down, and looked at again where none is left.
 pub fn run_making_room(grid: &Grid, state: &mut State, cycles: u64) -> Result<Ended, NoMemory>
     requires { Fits grid.now state.old.state }
     ensures ended { IfOk result (λ ended. EndsAs grid.now state.old.state cycles ended state.new.state) }
@@ -174,11 +198,13 @@ pub fn run_making_room(grid: &Grid, state: &mut State, cycles: u64) -> Result<En
     // The call tells the proof that this is a grid.
     grid.puzzle();
     let mut trace = Trace::new();
+    let mut room = 0;
     for done in 0..cycles {
-        make_room(state)?;
+        room = keep_room(state, room)?;
         if do_cycle(grid, state, &mut trace, false) == 0 {
             return Ok(Ended::Rest { done });
         }
+        room -= 1;
     }
     if grid.at_rest(state) {
         Ok(Ended::Rest { done: cycles })

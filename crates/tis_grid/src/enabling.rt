@@ -17,7 +17,7 @@ use crate::grid::Grid;
 use crate::state::State;
 use tis_asm::Program;
 use tis_base::{Dir, Tile, TileKind};
-use tis_node::{Intent, Node};
+use tis_node::{Decoded, Intent, Node};
 
 // How many columns, and how many tiles a grid has.
 const WIDTH: u8 = 4;
@@ -87,6 +87,18 @@ impl Grid {
         ensures sound { IsSound result.now }
     {
         self.programs.of(tile)
+    }
+
+    // The program of a tile, decoded.
+    #[inline(always)]
+    pub(crate) fn decoded(&self, tile: Tile) -> &Decoded
+        requires { tile.number < length self.now.puzzle.tiles.kinds }
+        ensures program { result.now ≡ event.program_of self.now tile.number }
+        ensures sound { IsSound result.now }
+    {
+        // The call tells the proof how many tiles there are.
+        self.puzzle.tiles.shape();
+        &self.decoded[tile.number as usize]
     }
 
     /// The tile that is next in a direction, where one is there.

@@ -11,7 +11,7 @@ returns-clause-steps c = λ yes.
     let here : node_view (get_or c.args.nodes.now c.args.index c.index-nodes-index.result) ≡ get_or (map node_view c.args.nodes.now) c.args.index fresh =
     sym (get_or-map node_view c.args.nodes.now c.args.index c.index-nodes-index.result fresh c.requires.within) in
     map-set node_view c.args.nodes.now c.args.index c.advance.new.self
-    ∙ ap (λ (n : Node). slice_set (map node_view c.args.nodes.now) c.args.index n) (c.advance.ensures.steps yes ∙ ap (local_step c.args.program.now) here)
+    ∙ ap (λ (n : Node). slice_set (map node_view c.args.nodes.now) c.args.index n) (c.advance.ensures.steps yes ∙ ap (local_step c.args.decoded.now) here)
 
 pub returns-clause-stays : goal.returns-clause-stays
 returns-clause-stays c = λ no. map-set_same node_view c.args.nodes.now c.args.index c.advance.new.self c.index-nodes-index.result (c.advance.ensures.stays no)
