@@ -1,5 +1,7 @@
 -- Cycle after cycle.
 use Rattle.std.proofs.Common.{◌≡◌, length, true, false, refl, sym, ap, subst, ◌∙◌, arith}
+use Rattle.std.specs.Prelude.{IsSome, is_some}
+use Rattle.tis_grid.specs.State.{State, output_taken}
 use Rattle.tis_grid.specs.Orders.{IsAtRest}
 use Rattle.tis_clock.specs.Cycle.{cycle_events, after_cycle, after_cycles}
 use Rattle.tis_clock.specs.Runs.{WorksBefore}
@@ -29,7 +31,11 @@ loop-done-preserved c =
       fits = c.do_cycle.ensures.fits;
       led = c.do_cycle.ensures.state ∙ ap (after_cycle grid) led ∙ sym (cycle_more grid c.args.state.now.state c.loop-done.done);
       works = works_more grid c.args.state.now.state c.loop-done.done c.loop-done.invariant.works (λ rest. works grid here c.puzzle.ensures.grid some (subst (IsAtRest grid) (sym led) rest));
-      room = λ position stands. ?;
+      room = λ position stands.
+        let taken : IsSome (output_taken here position) = ap (λ (s : State). is_some (output_taken s position)) c.keep_room.ensures.state ∙ c.loop-done.invariant.fits.outputs position ∙ stands in
+        let had = c.in_ok-room.ensures.room position taken in
+        let one = c.do_cycle.ensures.spares position in
+        omega (arith, had, one);
     }
 
 pub returns-else-at_rest-clause-ended : goal.returns-else-at_rest-clause-ended
