@@ -19,7 +19,7 @@ use Rattle.tis_asm.specs.declared.program.MarkedInstr.{MarkedInstr}
 use Rattle.tis_asm.specs.Programs.{SourceHasValue, InstrHasValue, HasValues}
 use Rattle.tis_asm.specs.Node.{Node, Ready, instr_at, next_of, away, jumps, is_local, local_by_instr}
 use Rattle.tis_node.specs.declared.row.Row.{Row}
-use Rattle.tis_node.specs.Rows.{sign_place, pc_by, by_row, Tells, silent, straight, going_on, moving, dropping, moving_to, adding, taking_away, going_away, jumping, row_of, HasRows}
+use Rattle.tis_node.specs.Rows.{sign_place, pc_by, by_row, Tells, Waits, IsTold, silent, waiting, writing, straight, going_on, moving, dropping, moving_to, adding, taking_away, going_away, jumping, row_of, HasRows}
 
 -- ---- sums of so many times two numbers
 
@@ -102,12 +102,20 @@ dropping_leads (from.Port port) program node tells acc bak = absurd cc
 dropping_leads from.Any program node tells acc bak = absurd cc
 dropping_leads from.Last program node tells acc bak = absurd cc
 
+writing_tells_nothing : (source : Source) → IsTrue (writing source).tells → ⊥
+writing_tells_nothing (from.Number number) tells = cc
+writing_tells_nothing from.Acc tells = cc
+writing_tells_nothing from.Nil tells = cc
+writing_tells_nothing (from.Port port) tells = cc
+writing_tells_nothing from.Any tells = cc
+writing_tells_nothing from.Last tells = cc
+
 moving_to_leads : (source : Source) (dest : Dest) (program : List MarkedInstr) (node : Node) → SourceHasValue source → Leads (moving_to source dest (next_of program node.pc)) (Mov source dest) program node
 moving_to_leads source to.Acc program node has tells acc bak = moving_leads source program node has tells acc bak
 moving_to_leads source to.Nil program node has tells acc bak = dropping_leads source program node tells acc bak
-moving_to_leads source (to.Port port) program node has tells acc bak = absurd cc
-moving_to_leads source to.Any program node has tells acc bak = absurd cc
-moving_to_leads source to.Last program node has tells acc bak = absurd cc
+moving_to_leads source (to.Port port) program node has tells acc bak = absurd (writing_tells_nothing source tells)
+moving_to_leads source to.Any program node has tells acc bak = absurd (writing_tells_nothing source tells)
+moving_to_leads source to.Last program node has tells acc bak = absurd (writing_tells_nothing source tells)
 
 adding_leads : (source : Source) (program : List MarkedInstr) (node : Node) → Leads (adding source (next_of program node.pc)) (Add source) program node
 adding_leads (from.Number number) program node tells acc bak = (refl, leads_straight (pos 1) (pos 0) number false (next_of program node.pc) node (sat (node.acc +ℤ number)) node.bak (sym (ap sat (acc_alone node.acc node.bak number))) refl)
@@ -186,6 +194,74 @@ row_tells instr program pc below has tells node at acc bak =
     subst (λ (p : ℕ). IsTrue (row_of instr program p).tells → IsTrue (is_local (Some instr) node) × (local_by_instr (Some instr) program node ≡ by_row (row_of instr program p) node)) at
     (λ t. leads instr program node (subst (λ (p : ℕ). p < length program) (sym at) below) has t acc bak) tells
 
+-- ---- the port that is read
+
+waits_moving : (source : Source) (next : ℕ) → Waits (moving source next).waits (Some (Mov source to.Acc))
+waits_moving (from.Port port) next = λ node. (refl, λ dir. refl)
+waits_moving (from.Number number) next = tt
+waits_moving from.Acc next = tt
+waits_moving from.Nil next = tt
+waits_moving from.Any next = tt
+waits_moving from.Last next = tt
+
+waits_dropping : (source : Source) (next : ℕ) → Waits (dropping source next).waits (Some (Mov source to.Nil))
+waits_dropping (from.Port port) next = λ node. (refl, λ dir. refl)
+waits_dropping (from.Number number) next = tt
+waits_dropping from.Acc next = tt
+waits_dropping from.Nil next = tt
+waits_dropping from.Any next = tt
+waits_dropping from.Last next = tt
+
+waits_writing : (source : Source) (dest : Dest) → Waits (writing source).waits (Some (Mov source dest))
+waits_writing (from.Port port) dest = λ node. (refl, λ dir. refl)
+waits_writing (from.Number number) dest = tt
+waits_writing from.Acc dest = tt
+waits_writing from.Nil dest = tt
+waits_writing from.Any dest = tt
+waits_writing from.Last dest = tt
+
+waits_moving_to : (source : Source) (dest : Dest) (next : ℕ) → Waits (moving_to source dest next).waits (Some (Mov source dest))
+waits_moving_to source to.Acc next = waits_moving source next
+waits_moving_to source to.Nil next = waits_dropping source next
+waits_moving_to source (to.Port port) next = waits_writing source (to.Port port)
+waits_moving_to source to.Any next = waits_writing source to.Any
+waits_moving_to source to.Last next = waits_writing source to.Last
+
+waits_adding : (source : Source) (next : ℕ) → Waits (adding source next).waits (Some (Add source))
+waits_adding (from.Port port) next = λ node. (refl, λ dir. refl)
+waits_adding (from.Number number) next = tt
+waits_adding from.Acc next = tt
+waits_adding from.Nil next = tt
+waits_adding from.Any next = tt
+waits_adding from.Last next = tt
+
+waits_taking_away : (source : Source) (next : ℕ) → Waits (taking_away source next).waits (Some (Sub source))
+waits_taking_away (from.Port port) next = λ node. (refl, λ dir. refl)
+waits_taking_away (from.Number number) next = tt
+waits_taking_away from.Acc next = tt
+waits_taking_away from.Nil next = tt
+waits_taking_away from.Any next = tt
+waits_taking_away from.Last next = tt
+
+waits_going_away : (source : Source) (program : List MarkedInstr) (pc : ℕ) → Waits (going_away source program pc).waits (Some (Jro source))
+waits_going_away (from.Port port) program pc = λ node. (refl, λ dir. refl)
+waits_going_away (from.Number number) program pc = tt
+waits_going_away from.Acc program pc = tt
+waits_going_away from.Nil program pc = tt
+waits_going_away from.Any program pc = tt
+waits_going_away from.Last program pc = tt
+
+row_waits : (instr : Instr) (program : List MarkedInstr) (pc : ℕ) → Waits (row_of instr program pc).waits (Some instr)
+row_waits Nop program pc = tt
+row_waits Swp program pc = tt
+row_waits Sav program pc = tt
+row_waits Neg program pc = tt
+row_waits (Mov source dest) program pc = waits_moving_to source dest (next_of program pc)
+row_waits (Add source) program pc = waits_adding source (next_of program pc)
+row_waits (Sub source) program pc = waits_taking_away source (next_of program pc)
+row_waits (Jro source) program pc = waits_going_away source program pc
+row_waits (Jump kind number) program pc = tt
+
 -- ---- all rows
 
 -- the number of an instruction of a program is a value
@@ -199,25 +275,27 @@ silent_everywhere zero index row is = refl
 silent_everywhere (suc count) zero row is = is
 silent_everywhere (suc count) (suc index) row is = silent_everywhere count index row is
 
-silent_tells : (row : Row) (instr : Option Instr) (program : List MarkedInstr) (pc : ℕ) → row ≡ silent → Tells row instr program pc
-silent_tells row instr program pc is tells = let no : true ≡ false = sym tells ∙ ap (λ (r : Row). r.tells) is in absurd cc
+silent_tells : (row : Row) (program : List MarkedInstr) (pc : ℕ) → row ≡ silent → IsTold row program pc
+silent_tells row program pc is = subst (λ (r : Row). IsTold r program pc) (sym is) (λ tells. absurd cc, tt)
 
 -- at first no row tells anything
 pub no_rows : (program : List MarkedInstr) (row : Row) → row ≡ silent → HasRows (replicate 15 row) program
-no_rows program row is = (refl, λ pc. silent_tells _ (instr_at program pc) program pc (silent_everywhere 15 pc row is))
+no_rows program row is = (refl, λ pc. silent_tells _ program pc (silent_everywhere 15 pc row is))
 
 -- one row more
 pub one_row_more : (rows : List Row) (program : List MarkedInstr) (pc : ℕ) (instr : Instr) (row : Row) → HasValues program → instr_at program pc ≡ Some instr → row ≡ row_of instr program pc → HasRows rows program → HasRows (set rows pc row) program
 one_row_more rows program pc instr row has there is are =
     (length-set rows pc row ∙ are.0, λ at. elim (cases_eq at pc) [
       | inl here ↦ elim (cases_lt pc (length rows)) [
-        | inl within ↦ subst (λ (r : Row). Tells r (instr_at program at) program at) (sym (get_or-set_same rows pc row silent within) ∙ ap (λ (i : ℕ). get_or (set rows pc row) i silent) (sym here)) (told at here)
-        | inr past ↦ subst (λ (list : List Row). Tells (get_or list at silent) (instr_at program at) program at) (sym (set_past rows pc row past)) (are.1 at)
+        | inl within ↦ subst (λ (r : Row). IsTold r program at) (sym (get_or-set_same rows pc row silent within) ∙ ap (λ (i : ℕ). get_or (set rows pc row) i silent) (sym here)) (told at here)
+        | inr past ↦ subst (λ (list : List Row). IsTold (get_or list at silent) program at) (sym (set_past rows pc row past)) (are.1 at)
       ]
-      | inr elsewhere ↦ subst (λ (r : Row). Tells r (instr_at program at) program at) (sym (get_or-set_other rows pc at row silent elsewhere)) (are.1 at)
+      | inr elsewhere ↦ subst (λ (r : Row). IsTold r program at) (sym (get_or-set_other rows pc at row silent elsewhere)) (are.1 at)
     ])
   where
-    told : (at : ℕ) → at ≡ pc → Tells row (instr_at program at) program at
+    told : (at : ℕ) → at ≡ pc → IsTold row program at
     told at here =
         let held = instr_held program pc instr there has in
-        subst (λ (p : ℕ). Tells row (instr_at program p) program p) (sym here) (subst (λ (o : Option Instr). Tells row o program pc) (sym there) (subst (λ (r : Row). Tells r (Some instr) program pc) (sym is) (row_tells instr program pc held.0 held.1)))
+        let tells = subst (λ (r : Row). Tells r (Some instr) program pc) (sym is) (row_tells instr program pc held.0 held.1) in
+        let waits = subst (λ (r : Row). Waits r.waits (Some instr)) (sym is) (row_waits instr program pc) in
+        subst (λ (p : ℕ). IsTold row program p) (sym here) (subst (λ (o : Option Instr). Tells row o program pc × Waits row.waits o) (sym there) (tells, waits))

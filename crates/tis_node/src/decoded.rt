@@ -2,7 +2,7 @@
 ghost use Rattle.std.specs.Prelude.{◌≡◌, ◌<◌, ◌≤◌, length};
 ghost use Rattle.tis_asm.specs.Programs.{HasValues};
 ghost use Rattle.tis_asm.specs.Node as table;
-ghost use Rattle.tis_node.specs.Rows.{HasRows, Tells};
+ghost use Rattle.tis_node.specs.Rows.{HasRows, Tells, Waits};
 
 use crate::row::{Row, row_of, silent};
 use std::marker::Model;
@@ -68,7 +68,8 @@ impl Decoded {
     #[inline(always)]
     pub(crate) fn row(&self, pc: u8) -> &Row
         requires { pc < 15 }
-        ensures { Tells result.now (table.instr_at self.now pc) self.now pc }
+        ensures tells { Tells result.now (table.instr_at self.now pc) self.now pc }
+        ensures waits { Waits result.now.waits (table.instr_at self.now pc) }
     {
         &self.rows[pc as usize]
     }

@@ -506,7 +506,10 @@ impl Node {
             self.step_by(row);
             return Intent::Local;
         }
-        self.advance_here(program)
+        match row.waits {
+            Some(port) => Intent::Takes(port),
+            None => self.advance_here(program),
+        }
     }
 
     /// Makes the node's local step, where it can make one, and tells what it would do: [`Node::intent`] and

@@ -5,15 +5,18 @@ ghost use Rattle.tis_node.specs.Rows as rows;
 
 use crate::node::{away, jumps};
 use tis_asm::{Dest, Instr, Jump, Program, Source};
-use tis_base::Value;
+use tis_base::{Dir, Value};
 
 /// What an instruction does that needs no port and goes on at once: the new ACC is the nearest value to so many times
 /// ACC, so many times BAK and a number; BAK becomes ACC or stays; and the next instruction is one of three, by the sign
-/// of ACC. So new registers and pc are computed alike for all of them, without a branch.
+/// of ACC. So new registers and pc are computed alike for all of them, without a branch. Of an instruction that reads from
+/// one port it is that port.
 #[derive(Clone, Copy, Debug, PartialEq, Eq, Hash)]
 pub(crate) struct Row {
-    // Whether the instruction is such a one.
+    // Whether the instruction goes on at once.
     pub(crate) tells: bool,
+    // The port that it reads from, if it reads from one whatever the node did before.
+    pub(crate) waits: Option<Dir>,
     // How many times ACC and BAK are in the new ACC, and the number besides.
     pub(crate) of_acc: i8,
     pub(crate) of_bak: i8,
@@ -76,12 +79,28 @@ impl Row {
     }
 }
 
-/// The row of an instruction that isn't such a one.
+/// The row of an instruction of another kind.
 pub(crate) fn silent() -> Row
     ensures { result ≡ rows.silent }
 {
     Row {
         tells: false,
+        waits: None,
+        of_acc: 0,
+        of_bak: 0,
+        plus: 0,
+        saves: false,
+        next: [0, 0, 0],
+    }
+}
+
+// The row of an instruction that reads from a port.
+fn waiting(port: Dir) -> Row
+    ensures { result ≡ rows.waiting port }
+{
+    Row {
+        tells: false,
+        waits: Some(port),
         of_acc: 0,
         of_bak: 0,
         plus: 0,
@@ -96,6 +115,7 @@ fn straight(of_acc: i8, of_bak: i8, plus: i16, saves: bool, next: u8) -> Row
 {
     Row {
         tells: true,
+        waits: None,
         of_acc,
         of_bak,
         plus,
@@ -133,7 +153,7 @@ fn moving(source: Source, next: u8) -> Row
         Source::Number(number) => straight(0, 0, narrow(number), false, next),
         Source::Acc => going_on(next),
         Source::Nil => straight(0, 0, 0, false, next),
-        Source::Port(_) => silent(),
+        Source::Port(port) => waiting(port),
         Source::Any => silent(),
         Source::Last => silent(),
     }
@@ -147,7 +167,21 @@ fn dropping(source: Source, next: u8) -> Row
         Source::Number(_) => going_on(next),
         Source::Acc => going_on(next),
         Source::Nil => going_on(next),
-        Source::Port(_) => silent(),
+        Source::Port(port) => waiting(port),
+        Source::Any => silent(),
+        Source::Last => silent(),
+    }
+}
+
+// The row of an instruction that moves a value to a port.
+fn writing(source: Source) -> Row
+    ensures { result ≡ rows.writing source }
+{
+    match source {
+        Source::Port(port) => waiting(port),
+        Source::Number(_) => silent(),
+        Source::Acc => silent(),
+        Source::Nil => silent(),
         Source::Any => silent(),
         Source::Last => silent(),
     }
@@ -160,9 +194,9 @@ fn moving_to(source: Source, dest: Dest, next: u8) -> Row
     match dest {
         Dest::Acc => moving(source, next),
         Dest::Nil => dropping(source, next),
-        Dest::Port(_) => silent(),
-        Dest::Any => silent(),
-        Dest::Last => silent(),
+        Dest::Port(_) => writing(source),
+        Dest::Any => writing(source),
+        Dest::Last => writing(source),
     }
 }
 
@@ -174,7 +208,7 @@ fn adding(source: Source, next: u8) -> Row
         Source::Number(number) => straight(1, 0, narrow(number), false, next),
         Source::Acc => straight(2, 0, 0, false, next),
         Source::Nil => going_on(next),
-        Source::Port(_) => silent(),
+        Source::Port(port) => waiting(port),
         Source::Any => silent(),
         Source::Last => silent(),
     }
@@ -188,7 +222,7 @@ fn taking_away(source: Source, next: u8) -> Row
         Source::Number(number) => straight(1, 0, narrow_opposite(number), false, next),
         Source::Acc => straight(0, 0, 0, false, next),
         Source::Nil => going_on(next),
-        Source::Port(_) => silent(),
+        Source::Port(port) => waiting(port),
         Source::Any => silent(),
         Source::Last => silent(),
     }
@@ -203,7 +237,7 @@ fn going_away(source: Source, program: &Program, pc: u8) -> Row
         Source::Number(number) => going_on(away(program, pc, number)),
         Source::Nil => going_on(pc),
         Source::Acc => silent(),
-        Source::Port(_) => silent(),
+        Source::Port(port) => waiting(port),
         Source::Any => silent(),
         Source::Last => silent(),
     }
@@ -225,6 +259,7 @@ fn jumping(jump: Jump, number: u8, next: u8) -> Row
     let above = jump_to(jump, Value::clamp(1), number, next);
     Row {
         tells: true,
+        waits: None,
         of_acc: 1,
         of_bak: 0,
         plus: 0,
