@@ -62,7 +62,38 @@ fn first_half(
     count
 }
 
-// What those give that were writing and whose values weren't taken, tile by tile, and how many events there were.
+// What those give that were writing and whose values weren't taken, tile by tile, and how many events there were. It stands
+// out of line, so that what is done in each cycle is short.
+#[inline(never)]
+fn give_all(
+    grid: &Grid,
+    writing: &[bool; TILES],
+    state: &mut State,
+    trace: &mut Trace,
+    kept: bool,
+) -> u32
+    requires fits { Fits grid.now state.old.state }
+    requires room { HasRoomForOne grid.now state.old.spares }
+    requires few { IsTrue kept → length trace.old ≤ 12 }
+    ensures trace { IsTrue kept → trace.new ≡ trace.old ++ in_turn grid.now (gives_out grid.now (kept_at writing.now)) state.old.state (all_tiles grid.now) }
+    ensures count { result ≡ length (in_turn grid.now (gives_out grid.now (kept_at writing.now)) state.old.state (all_tiles grid.now)) }
+    ensures few { result ≤ 12 }
+    ensures state { state.new.state ≡ state_after grid.now state.old.state (in_turn grid.now (gives_out grid.now (kept_at writing.now)) state.old.state (all_tiles grid.now)) }
+    ensures spares { LowersBy 1 state.old.spares state.new.spares }
+    ensures fits { Fits grid.now state.new.state }
+{
+    let mut count = 0;
+    for number in 0..tiles_of(grid) {
+        let chosen = give_out(grid, writing, state, Tile { number });
+        act(grid, state, chosen);
+        trace.add(chosen, kept);
+        count += number_of(chosen);
+    }
+    count
+}
+
+// What those give that were writing and whose values weren't taken, tile by tile, and how many events there were: none, where
+// nobody was writing.
 #[inline(always)]
 fn second_half(
     grid: &Grid,
@@ -84,14 +115,7 @@ fn second_half(
     if !any_was_writing(writing) {
         return 0;
     }
-    let mut count = 0;
-    for number in 0..tiles_of(grid) {
-        let chosen = give_out(grid, writing, state, Tile { number });
-        act(grid, state, chosen);
-        trace.add(chosen, kept);
-        count += number_of(chosen);
-    }
-    count
+    give_all(grid, writing, state, trace, kept)
 }
 
 // Applies the events of one clock cycle, and gives how many there were. They are written into the trace if they are kept.
@@ -105,7 +129,7 @@ fn do_cycle(grid: &Grid, state: &mut State, trace: &mut Trace, kept: bool) -> u3
     ensures spares { LowersBy 1 state.old.spares state.new.spares }
     ensures fits { Fits grid.now state.new.state }
 {
-    let writing = writers(grid, state);
+    let writing = writers(state);
     trace.clear();
     let first = first_half(grid, &writing, state, trace, kept);
     let second = second_half(grid, &writing, state, trace, kept);

@@ -3,7 +3,6 @@ ghost use Rattle.std.specs.Prelude.{◌≡◌, ◌<◌, ◌∷◌, [], length, f
 ghost use Rattle.tis_base.specs.declared.tiles.Dir.{Dir as AnyDir};
 ghost use Rattle.tis_base.specs.declared.tiles.Dir.TheVariants.{Down};
 ghost use Rattle.std.specs.List.{find, list_any};
-ghost use Rattle.tis_node.specs.NodeView.{node_view};
 ghost use Rattle.tis_grid.specs.Orders.{Fits};
 ghost use Rattle.tis_node.specs.Intents.{takes_from};
 ghost use Rattle.tis_grid.specs.declared.event.Event.TheVariants as event;
@@ -15,7 +14,7 @@ ghost use Rattle.tis_clock.specs.Turns.{kept_at, acts, room_behind, Keeps};
 
 use tis_base::{Dir, Tile};
 use tis_grid::{Event, Grid, State};
-use tis_node::{Intent, Mode, Node};
+use tis_node::Intent;
 
 /// How many tiles a grid has.
 pub(crate) const TILES: usize = 12;
@@ -26,30 +25,12 @@ pub(crate) const COUNT: u8 = 12;
 // The number of the first tile of the bottom row.
 const BOTTOM: u8 = 8;
 
-// Whether a node writes.
-#[inline(always)]
-fn is_writing(node: &Node) -> bool
-    ensures { result ≡ cycle.is_writing (node_view node.now).mode }
-{
-    match node.mode {
-        Mode::Ready => false,
-        Mode::Writing { .. } => true,
-    }
-}
-
 /// Which tiles are writing.
 #[inline(always)]
-pub(crate) fn writers(grid: &Grid, state: &State) -> [bool; TILES]
-    requires { Fits grid.now state.now.state }
+pub(crate) fn writers(state: &State) -> [bool; TILES]
     ensures { Keeps result state.now.state }
 {
-    // The call tells the proof how many tiles there are.
-    grid.puzzle().tiles.shape();
-    let mut writing = [false; TILES];
-    for number in 0..COUNT {
-        writing[number as usize] = is_writing(&state.node(Tile { number }));
-    }
-    writing
+    state.writers()
 }
 
 /// Whether any tile was writing when the cycle began.
@@ -227,6 +208,31 @@ pub(crate) fn act(grid: &Grid, state: &mut State, chosen: Option<Event>)
     }
 }
 
+// Does what a tile does that was ready when the cycle began, and whose instruction needs a port. It stands out of line,
+// so that a step without a port is short.
+#[inline(never)]
+fn read(
+    grid: &Grid,
+    writing: &[bool; TILES],
+    state: &mut State,
+    tile: Tile,
+    intent: Intent,
+) -> Option<Event>
+    requires fits { Fits grid.now state.old.state }
+    requires there { tile.number < length grid.now.puzzle.tiles.kinds }
+    requires ready { kept_at writing.now tile.number ≡ false }
+    requires local { is_enabled grid.now state.old.state (event.Local tile) ≡ false }
+    requires takes { (dir : AnyDir) → is_waiting grid.now state.old.state tile.number dir ≡ takes_from intent dir }
+    ensures chosen { result ≡ cycle.reads_or_steps grid.now (kept_at writing.now) state.old.state tile.number }
+    ensures state { state.new.state ≡ state_after grid.now state.old.state (acts result) }
+    ensures spares { state.new.spares ≡ state.old.spares }
+    ensures fits { Fits grid.now state.new.state }
+{
+    let taken = take(grid, writing, state, tile, intent);
+    act(grid, state, taken);
+    taken
+}
+
 /// What a tile does that was ready when the cycle began.
 #[inline(always)]
 pub(crate) fn read_or_step(
@@ -251,9 +257,7 @@ pub(crate) fn read_or_step(
     if intent.is_local() {
         return Some(Event::Local(tile));
     }
-    let taken = take(grid, writing, state, tile, intent);
-    act(grid, state, taken);
-    taken
+    read(grid, writing, state, tile, intent)
 }
 
 // The output whose column ends in this tile takes its value.

@@ -194,6 +194,7 @@ impl Grid {
         self.puzzle.tiles.shape();
         Ok(State {
             nodes: [Node::fresh(); TILES],
+            writing: [false; TILES],
             stacks: no_stacks(),
             left: [
                 self.input_len(0),

@@ -6,11 +6,34 @@ ghost use Rattle.tis_asm.specs.Programs.{IsSound};
 ghost use Rattle.tis_node.specs.Intents.{is_local, takes_from, gives_to};
 ghost use Rattle.tis_node.specs.NodeView.{node_view};
 ghost use Rattle.tis_grid.specs.State.{node_at};
+ghost use Rattle.tis_grid.specs.HeldState as held;
 ghost use Rattle.tis_grid.specs.Events.{with_node};
 
-use crate::state::State;
+use crate::state::{State, TILES};
 use tis_base::Tile;
-use tis_node::{Decoded, Intent, Node};
+use tis_node::{Decoded, Intent, Mode, Node};
+
+// Whether a node writes.
+#[inline(always)]
+fn writes(node: &Node) -> bool
+    ensures { result ≡ held.writes (node_view node.now) }
+{
+    match node.mode {
+        Mode::Ready => false,
+        Mode::Writing { .. } => true,
+    }
+}
+
+/// Which of these nodes write.
+pub(crate) fn writers_of(nodes: &[Node; TILES]) -> [bool; TILES]
+    ensures { result ≡ map held.writes (map node_view nodes.now) }
+{
+    let mut writing = [false; TILES];
+    for tile in 0..TILES {
+        writing[tile] = writes(&nodes[tile]);
+    }
+    writing
+}
 
 // Makes the step of one of the nodes where it stands, where it can make one without a port, and tells what it would do.
 #[inline(always)]
@@ -23,6 +46,7 @@ fn advance_at(nodes: &mut [Node], index: usize, decoded: &Decoded) -> Intent
     ensures gives { (dir : AnyDir) → is_some (table.offers (get_or (map node_view nodes.old) index table.fresh) dir) ≡ gives_to result dir }
     ensures steps { IsTrue (is_local result) → map node_view nodes.new ≡ slice_set (map node_view nodes.old) index (table.local_step decoded.now (get_or (map node_view nodes.old) index table.fresh)) }
     ensures stays { ¬ IsTrue (is_local result) → map node_view nodes.new ≡ map node_view nodes.old }
+    ensures alone { map node_view nodes.new ≡ slice_set (map node_view nodes.old) index (get_or (map node_view nodes.new) index table.fresh) }
 {
     nodes[index].advance(decoded)
 }
@@ -43,7 +67,9 @@ impl State {
         requires { tile.number < length self.old.state.nodes }
         ensures { self.new ≡ record self.old { state = with_node self.old.state tile.number (node_view node) } }
     {
+        let writes = writes(&node);
         self.nodes[tile.number as usize] = node;
+        self.writing[tile.number as usize] = writes;
     }
 
     // Makes the step of the node of a tile, where it can make one without a port, and tells what it would do.
@@ -58,6 +84,9 @@ impl State {
         ensures steps { IsTrue (is_local result) → self.new ≡ record self.old { state = with_node self.old.state tile.number (table.local_step decoded.now (node_at self.old.state tile.number)) } }
         ensures stays { ¬ IsTrue (is_local result) → self.new ≡ self.old }
     {
-        advance_at(&mut self.nodes, tile.number as usize, decoded)
+        let index = tile.number as usize;
+        let intent = advance_at(&mut self.nodes, index, decoded);
+        self.writing[index] = writes(&self.nodes[index]);
+        intent
     }
 }

@@ -467,7 +467,7 @@ impl Node {
     }
 
     // Does the instruction at the pc, where it needs no port, and tells what it would do.
-    #[inline(always)]
+    #[inline(never)]
     fn advance_here(&mut self, program: &Program) -> Intent
         requires sound { IsSound program.now }
         requires values { HasValues program.now }

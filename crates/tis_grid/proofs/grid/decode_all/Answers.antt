@@ -1,7 +1,6 @@
 -- A list of twelve is its elements, one after the other.
 use Rattle.std.proofs.Common.{◌≡◌, ℕ, zero, suc, ◌*◌, List, [], ◌∷◌, length, get_or, refl, sym, ap, ◌∙◌, arith}
 use Rattle.tis_base.specs.Tiles.{Tiles}
-use Rattle.tis_asm.specs.declared.program.MarkedInstr.{MarkedInstr}
 use Rattle.tis_grid.proofs.grid.decode_all.Goals as goal
 
 -- so many numbers from 0 on, and what stands there
