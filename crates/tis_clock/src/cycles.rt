@@ -151,6 +151,19 @@ pub fn cycle(grid: &Grid, state: &mut State, trace: &mut Trace) -> u32
     do_cycle(grid, state, trace, true)
 }
 
+/// The same without a trace: applies the events of one clock cycle, and gives how many there were.
+pub fn count_cycle(grid: &Grid, state: &mut State) -> u32
+    requires fits { Fits grid.now state.old.state }
+    requires room { HasRoomEach state.old 1 }
+    ensures count { result ≡ length (cycle_events grid.now state.old.state) }
+    ensures state { state.new.state ≡ after_cycle grid.now state.old.state }
+    ensures spares { LowersBy 1 state.old.spares state.new.spares }
+    ensures fits { Fits grid.now state.new.state }
+{
+    let mut trace = Trace::new();
+    do_cycle(grid, state, &mut trace, false)
+}
+
 /// Runs a grid cycle by cycle until it is at rest, for so many cycles at most, and gives how many were done. It asks
 /// room for so many more values of each output, and takes no memory.
 pub fn run(grid: &Grid, state: &mut State, cycles: u64) -> Ended

@@ -128,7 +128,7 @@ impl Grid {
         if !self.is_compute(tile) {
             return Intent::Nothing;
         }
-        state.node_of(tile).intent(self.program(tile))
+        state.node_of(tile).intent_by(self.decoded(tile))
     }
 
     // Whether a compute tile waits for a value from a port.
@@ -141,7 +141,7 @@ impl Grid {
         if !self.is_compute(tile) {
             return false;
         }
-        state.node_of(tile).wants(self.program(tile), dir)
+        state.node_of(tile).waits_for(self.decoded(tile), dir)
     }
 
     /// Whether a compute tile gives a value to a port.

@@ -378,6 +378,63 @@ impl Node {
         }
     }
 
+    // The same of a node that is ready, by the row of its instruction, where that tells anything.
+    #[inline(always)]
+    fn intent_ready(&self, decoded: &Decoded) -> Intent
+        requires fits { table.FitsProgram decoded.now (node_view self.now) }
+        requires ready { (node_view self.now).mode ≡ Ready }
+        ensures local { table.can_local decoded.now (node_view self.now) ≡ intents.is_local result }
+        ensures takes { (dir : AnyDir) → table.wants decoded.now (node_view self.now) dir ≡ intents.takes_from result dir }
+        ensures gives { (dir : AnyDir) → is_some (table.offers (node_view self.now) dir) ≡ intents.gives_to result dir }
+    {
+        let program = decoded.program();
+        let row = decoded.row(self.pc);
+        if row.tells {
+            return Intent::Local;
+        }
+        match row.waits {
+            Some(port) => Intent::Takes(port),
+            None => self.intent(program),
+        }
+    }
+
+    /// The same of a node of a program that was decoded.
+    #[inline(always)]
+    pub fn intent_by(&self, decoded: &Decoded) -> Intent
+        requires fits { table.FitsProgram decoded.now (node_view self.now) }
+        ensures local { table.can_local decoded.now (node_view self.now) ≡ intents.is_local result }
+        ensures takes { (dir : AnyDir) → table.wants decoded.now (node_view self.now) dir ≡ intents.takes_from result dir }
+        ensures gives { (dir : AnyDir) → is_some (table.offers (node_view self.now) dir) ≡ intents.gives_to result dir }
+    {
+        match self.mode {
+            Mode::Ready => self.intent_ready(decoded),
+            Mode::Writing {
+                to: Toward::One(port),
+                ..
+            } => Intent::Gives(port),
+            Mode::Writing {
+                to: Toward::Any,
+                ..
+            } => Intent::GivesAny,
+        }
+    }
+
+    /// Whether a node of a program that was decoded waits for a value from this port.
+    #[inline(always)]
+    pub fn waits_for(&self, decoded: &Decoded, dir: Dir) -> bool
+        requires fits { table.FitsProgram decoded.now (node_view self.now) }
+        ensures { result ≡ table.wants decoded.now (node_view self.now) dir }
+    {
+        match self.intent_by(decoded) {
+            Intent::Takes(port) => port == dir,
+            Intent::TakesAny => true,
+            Intent::Nothing => false,
+            Intent::Local => false,
+            Intent::Gives(_) => false,
+            Intent::GivesAny => false,
+        }
+    }
+
     /// Whether the node can make a local step: it is ready, and its instruction needs no port.
     #[inline]
     pub fn can_local(&self, program: &Program) -> bool
