@@ -6,8 +6,8 @@ ghost use Rattle.std.specs.List.{find, list_any};
 ghost use Rattle.tis_grid.specs.Orders.{Fits};
 ghost use Rattle.tis_node.specs.Intents.{takes_from};
 ghost use Rattle.tis_grid.specs.declared.event.Event.TheVariants as event;
-ghost use Rattle.tis_grid.specs.Events.{IsEnabled, is_enabled, is_giving, is_waiting, next_tile};
-ghost use Rattle.tis_grid.specs.HeldState.{HasRoom};
+ghost use Rattle.tis_grid.specs.Events.{IsEnabled, is_enabled, is_giving, is_waiting, next_tile, after_event};
+ghost use Rattle.tis_grid.specs.HeldState.{HasRoom, spares_after};
 ghost use Rattle.tis_clock.specs.Cycle.{state_after};
 ghost use Rattle.tis_clock.specs.Cycle as cycle;
 ghost use Rattle.tis_clock.specs.Turns.{kept_at, acts, room_behind, Keeps};
@@ -193,6 +193,19 @@ fn take(
     }
 }
 
+// Applies an event. It stands out of line, so that what is done for each tile is short.
+#[inline(never)]
+fn happen(grid: &Grid, state: &mut State, event: Event)
+    requires fits { Fits grid.now state.old.state }
+    requires enabled { IsEnabled grid.now state.old.state event }
+    requires room { HasRoom state.old.spares event }
+    ensures state { state.new.state ≡ after_event grid.now state.old.state event }
+    ensures spares { state.new.spares ≡ spares_after state.old.spares event }
+    ensures fits { Fits grid.now state.new.state }
+{
+    grid.apply(state, event);
+}
+
 // Applies what a tile chose, where it chose anything.
 #[inline(always)]
 pub(crate) fn act(grid: &Grid, state: &mut State, chosen: Option<Event>)
@@ -204,13 +217,12 @@ pub(crate) fn act(grid: &Grid, state: &mut State, chosen: Option<Event>)
     ensures fits { Fits grid.now state.new.state }
 {
     if let Some(event) = chosen {
-        grid.apply(state, event);
+        happen(grid, state, event);
     }
 }
 
-// Does what a tile does that was ready when the cycle began, and whose instruction needs a port. It stands out of line,
-// so that a step without a port is short.
-#[inline(never)]
+// Does what a tile does that was ready when the cycle began, and whose instruction needs a port.
+#[inline(always)]
 fn read(
     grid: &Grid,
     writing: &[bool; TILES],

@@ -73,7 +73,7 @@ three_alike next (pos (suc n)) = refl
 
 -- a node with what the row gives is the one behind a step by it
 leads_straight : (of_acc of_bak plus : ℤ) (saves : Bool) (next : ℕ) (node : Node) (acc bak : ℤ) → acc ≡ sat (of_acc *ℤ node.acc +ℤ of_bak *ℤ node.bak +ℤ plus) → bak ≡ (if saves then node.acc else node.bak)
-  → record { pc = next; acc = acc; bak = bak; last = node.last; mode = Ready } ≡ by_row (straight of_acc of_bak plus saves next) node
+    → record { pc = next; acc = acc; bak = bak; last = node.last; mode = Ready } ≡ by_row (straight of_acc of_bak plus saves next) node
 leads_straight of_acc of_bak plus saves next node acc bak acc_is bak_is = λ i. record { pc = sym (three_alike next node.acc) i; acc = acc_is i; bak = bak_is i; last = node.last; mode = Ready }
 
 -- one that goes on, whatever its number is
@@ -173,9 +173,11 @@ chosen_pc false number next node = refl
 
 jumping_leads : (kind : JumpKind) (number : ℕ) (program : List MarkedInstr) (node : Node) → Leads (jumping kind number (next_of program node.pc)) (Jump kind number) program node
 jumping_leads kind number program node tells acc bak =
-    let next = next_of program node.pc in
-    (refl, chosen_pc (jumps kind node.acc) number next node
-    ∙ (λ i. record { pc = jumps_by_sign kind node.acc number next i; acc = sym (ap sat (acc_kept node.acc node.bak) ∙ sat_value node.acc acc) i; bak = node.bak; last = node.last; mode = Ready }))
+    let next = next_of program node.pc in (
+      refl,
+      chosen_pc (jumps kind node.acc) number next node
+          ∙ (λ i. record { pc = jumps_by_sign kind node.acc number next i; acc = sym (ap sat (acc_kept node.acc node.bak) ∙ sat_value node.acc acc) i; bak = node.bak; last = node.last; mode = Ready }),
+    )
 
 leads : (instr : Instr) (program : List MarkedInstr) (node : Node) → node.pc < length program → InstrHasValue instr → Leads (row_of instr program node.pc) instr program node
 leads Nop program node below has tells acc bak = (refl, leads_on (next_of program node.pc) node acc)
@@ -284,14 +286,16 @@ no_rows program row is = (refl, λ pc. silent_tells _ program pc (silent_everywh
 
 -- one row more
 pub one_row_more : (rows : List Row) (program : List MarkedInstr) (pc : ℕ) (instr : Instr) (row : Row) → HasValues program → instr_at program pc ≡ Some instr → row ≡ row_of instr program pc → HasRows rows program → HasRows (set rows pc row) program
-one_row_more rows program pc instr row has there is are =
-    (length-set rows pc row ∙ are.0, λ at. elim (cases_eq at pc) [
-      | inl here ↦ elim (cases_lt pc (length rows)) [
-        | inl within ↦ subst (λ (r : Row). IsTold r program at) (sym (get_or-set_same rows pc row silent within) ∙ ap (λ (i : ℕ). get_or (set rows pc row) i silent) (sym here)) (told at here)
-        | inr past ↦ subst (λ (list : List Row). IsTold (get_or list at silent) program at) (sym (set_past rows pc row past)) (are.1 at)
-      ]
-      | inr elsewhere ↦ subst (λ (r : Row). IsTold r program at) (sym (get_or-set_other rows pc at row silent elsewhere)) (are.1 at)
-    ])
+one_row_more rows program pc instr row has there is are = (
+  length-set rows pc row ∙ are.0,
+  λ at. elim (cases_eq at pc) [
+    | inl here ↦ elim (cases_lt pc (length rows)) [
+      | inl within ↦ subst (λ (r : Row). IsTold r program at) (sym (get_or-set_same rows pc row silent within) ∙ ap (λ (i : ℕ). get_or (set rows pc row) i silent) (sym here)) (told at here)
+      | inr past ↦ subst (λ (list : List Row). IsTold (get_or list at silent) program at) (sym (set_past rows pc row past)) (are.1 at)
+    ]
+    | inr elsewhere ↦ subst (λ (r : Row). IsTold r program at) (sym (get_or-set_other rows pc at row silent elsewhere)) (are.1 at)
+  ],
+)
   where
     told : (at : ℕ) → at ≡ pc → IsTold row program at
     told at here =

@@ -44,13 +44,7 @@ fn sign_place(value: Value) -> usize
     ensures among { result < 3 }
 {
     let number = value.get();
-    if number < 0 {
-        0
-    } else if number == 0 {
-        1
-    } else {
-        2
-    }
+    (0 <= number) as usize + (0 < number) as usize
 }
 
 impl Row {

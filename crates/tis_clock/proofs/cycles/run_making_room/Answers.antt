@@ -32,10 +32,10 @@ loop-done-preserved c =
       led = c.do_cycle.ensures.state ∙ ap (after_cycle grid) led ∙ sym (cycle_more grid c.args.state.now.state c.loop-done.done);
       works = works_more grid c.args.state.now.state c.loop-done.done c.loop-done.invariant.works (λ rest. works grid here c.puzzle.ensures.grid some (subst (IsAtRest grid) (sym led) rest));
       room = λ position stands.
-        let taken : IsSome (output_taken here position) = ap (λ (s : State). is_some (output_taken s position)) c.keep_room.ensures.state ∙ c.loop-done.invariant.fits.outputs position ∙ stands in
-        let had = c.in_ok-room.ensures.room position taken in
-        let one = c.do_cycle.ensures.spares position in
-        omega (arith, had, one);
+          let taken : IsSome (output_taken here position) = ap (λ (s : State). is_some (output_taken s position)) c.keep_room.ensures.state ∙ c.loop-done.invariant.fits.outputs position ∙ stands in
+          let had = c.in_ok-room.ensures.room position taken in
+          let one = c.do_cycle.ensures.spares position in
+          omega (arith, had, one);
     }
 
 pub returns-else-at_rest-clause-ended : goal.returns-else-at_rest-clause-ended

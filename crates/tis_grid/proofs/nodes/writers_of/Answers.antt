@@ -15,11 +15,13 @@ loop-tile-preserved c =
     let nodes = c.args.nodes.now in
     let tile = c.loop-tile.tile in
     let at_tile : get_or (map writes (map node_view nodes)) tile false ≡ writes (node_view (get_or nodes tile c.index-nodes-tile.result)) =
-    get_or-map writes (map node_view nodes) tile fresh ∙ ap writes (get_or-map_within node_view nodes tile c.index-nodes-tile.result fresh (omega arith)) in
-    (length-set c.loop-tile.writing tile c.writes.result ∙ c.loop-tile.invariant.0, λ k below. elim (cases_eq k tile) [
-      | inl here ↦ get_or-set_at c.loop-tile.writing tile k c.writes.result false here (omega arith) ∙ c.writes.ensures ∙ sym at_tile ∙ ap (λ (i : ℕ). get_or (map writes (map node_view nodes)) i false) (sym here)
-      | inr other ↦ get_or-set_other c.loop-tile.writing tile k c.writes.result false other ∙ c.loop-tile.invariant.1 k (omega (arith, ltb_of k tile below other))
-    ])
+    get_or-map writes (map node_view nodes) tile fresh ∙ ap writes (get_or-map_within node_view nodes tile c.index-nodes-tile.result fresh (omega arith)) in (
+      length-set c.loop-tile.writing tile c.writes.result ∙ c.loop-tile.invariant.0,
+      λ k below. elim (cases_eq k tile) [
+        | inl here ↦ get_or-set_at c.loop-tile.writing tile k c.writes.result false here (omega arith) ∙ c.writes.ensures ∙ sym at_tile ∙ ap (λ (i : ℕ). get_or (map writes (map node_view nodes)) i false) (sym here)
+        | inr other ↦ get_or-set_other c.loop-tile.writing tile k c.writes.result false other ∙ c.loop-tile.invariant.1 k (omega (arith, ltb_of k tile below other))
+      ],
+    )
   where
     ltb_of : (k tile : ℕ) → k < tile + 1 → (k ≡ tile → ⊥) → k < tile
     ltb_of k tile below other = omega arith
