@@ -62,7 +62,38 @@ fn first_half(
     count
 }
 
-// What those give that were writing and whose values weren't taken, tile by tile, and how many events there were.
+// What those give that were writing and whose values weren't taken, tile by tile, and how many events there were. It stands
+// out of line, so that what is done in each cycle is short.
+#[inline(never)]
+fn give_all(
+    grid: &Grid,
+    writing: &[bool; TILES],
+    state: &mut State,
+    trace: &mut Trace,
+    kept: bool,
+) -> u32
+    requires fits { Fits grid.now state.old.state }
+    requires room { HasRoomForOne grid.now state.old.spares }
+    requires few { IsTrue kept → length trace.old ≤ 12 }
+    ensures trace { IsTrue kept → trace.new ≡ trace.old ++ in_turn grid.now (gives_out grid.now (kept_at writing.now)) state.old.state (all_tiles grid.now) }
+    ensures count { result ≡ length (in_turn grid.now (gives_out grid.now (kept_at writing.now)) state.old.state (all_tiles grid.now)) }
+    ensures few { result ≤ 12 }
+    ensures state { state.new.state ≡ state_after grid.now state.old.state (in_turn grid.now (gives_out grid.now (kept_at writing.now)) state.old.state (all_tiles grid.now)) }
+    ensures spares { LowersBy 1 state.old.spares state.new.spares }
+    ensures fits { Fits grid.now state.new.state }
+{
+    let mut count = 0;
+    for number in 0..tiles_of(grid) {
+        let chosen = give_out(grid, writing, state, Tile { number });
+        act(grid, state, chosen);
+        trace.add(chosen, kept);
+        count += number_of(chosen);
+    }
+    count
+}
+
+// What those give that were writing and whose values weren't taken, tile by tile, and how many events there were: none, where
+// nobody was writing.
 #[inline(always)]
 fn second_half(
     grid: &Grid,
@@ -84,14 +115,7 @@ fn second_half(
     if !any_was_writing(writing) {
         return 0;
     }
-    let mut count = 0;
-    for number in 0..tiles_of(grid) {
-        let chosen = give_out(grid, writing, state, Tile { number });
-        act(grid, state, chosen);
-        trace.add(chosen, kept);
-        count += number_of(chosen);
-    }
-    count
+    give_all(grid, writing, state, trace, kept)
 }
 
 // Applies the events of one clock cycle, and gives how many there were. They are written into the trace if they are kept.
@@ -105,7 +129,7 @@ fn do_cycle(grid: &Grid, state: &mut State, trace: &mut Trace, kept: bool) -> u3
     ensures spares { LowersBy 1 state.old.spares state.new.spares }
     ensures fits { Fits grid.now state.new.state }
 {
-    let writing = writers(grid, state);
+    let writing = writers(state);
     trace.clear();
     let first = first_half(grid, &writing, state, trace, kept);
     let second = second_half(grid, &writing, state, trace, kept);
@@ -125,6 +149,19 @@ pub fn cycle(grid: &Grid, state: &mut State, trace: &mut Trace) -> u32
     ensures fits { Fits grid.now state.new.state }
 {
     do_cycle(grid, state, trace, true)
+}
+
+/// The same without a trace: applies the events of one clock cycle, and gives how many there were.
+pub fn count_cycle(grid: &Grid, state: &mut State) -> u32
+    requires fits { Fits grid.now state.old.state }
+    requires room { HasRoomEach state.old 1 }
+    ensures count { result ≡ length (cycle_events grid.now state.old.state) }
+    ensures state { state.new.state ≡ after_cycle grid.now state.old.state }
+    ensures spares { LowersBy 1 state.old.spares state.new.spares }
+    ensures fits { Fits grid.now state.new.state }
+{
+    let mut trace = Trace::new();
+    do_cycle(grid, state, &mut trace, false)
 }
 
 /// Runs a grid cycle by cycle until it is at rest, for so many cycles at most, and gives how many were done. It asks
@@ -163,8 +200,32 @@ pub fn make_room(state: &mut State) -> Result<(), NoMemory>
     state.reserve(1)
 }
 
+// Makes room for one more value of each output where none is known, and gives for how many there is some.
+#[inline(always)]
+fn keep_room(state: &mut State, room: usize) -> Result<usize, NoMemory>
+    requires { HasRoomEach state.old room }
+    ensures state { state.new.state ≡ state.old.state }
+    ensures some { IfOk result (λ room. 1 ≤ room) }
+    ensures room { IfOk result (λ room. HasRoomEach state.new room) }
+{
+    if 0 < room {
+        return Ok(room);
+    }
+    find_room(state)
+}
+
+// Makes room for one more value of each output, and gives for how many there is some.
+fn find_room(state: &mut State) -> Result<usize, NoMemory>
+    ensures state { state.new.state ≡ state.old.state }
+    ensures some { IfOk result (λ room. 1 ≤ room) }
+    ensures room { IfOk result (λ room. HasRoomEach state.new room) }
+{
+    make_room(state)?;
+    Ok(state.spare().max(1))
+}
+
 /// The same, and makes room for more values of the outputs where one has none left. Where memory runs out, some of
-/// the cycles were done.
+/// the cycles were done. How much room there is is counted down, and looked at again where none is left.
 pub fn run_making_room(grid: &Grid, state: &mut State, cycles: u64) -> Result<Ended, NoMemory>
     requires { Fits grid.now state.old.state }
     ensures ended { IfOk result (λ ended. EndsAs grid.now state.old.state cycles ended state.new.state) }
@@ -174,11 +235,13 @@ pub fn run_making_room(grid: &Grid, state: &mut State, cycles: u64) -> Result<En
     // The call tells the proof that this is a grid.
     grid.puzzle();
     let mut trace = Trace::new();
+    let mut room = 0;
     for done in 0..cycles {
-        make_room(state)?;
+        room = keep_room(state, room)?;
         if do_cycle(grid, state, &mut trace, false) == 0 {
             return Ok(Ended::Rest { done });
         }
+        room -= 1;
     }
     if grid.at_rest(state) {
         Ok(Ended::Rest { done: cycles })

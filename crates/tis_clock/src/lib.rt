@@ -8,9 +8,9 @@
 //!
 //! # What the layers above use
 //!
-//! [`cycle`] applies the events of one cycle, [`run`] does cycle after cycle up to the first after which the grid is at
+//! [`cycle`] applies the events of one cycle, [`count_cycle`] does so without a trace, [`run`] does cycle after cycle up to the first after which the grid is at
 //! rest or to a limit, and [`run_making_room`] does the same where nobody knows how much the outputs take; who looks at
-//! the state between the cycles calls [`make_room`] and [`cycle`] in turn.
+//! the state between the cycles calls [`make_room`] and one of the two in turn.
 //!
 //! The laws, as contracts of functions without a body: the events of a cycle are a legal order
 //! ([`cycles_are_legal`]); there is none exactly at rest ([`rest_has_no_cycle`]); each tile does one thing in a cycle
@@ -27,8 +27,8 @@
 //! # What it costs
 //!
 //! A cycle goes over the tiles, and a second time where one was writing when it began, and asks of each what it can do.
-//! `cycle` writes its events down; a run counts them alone. `cycle` and `run` take no memory; `run_making_room` takes some
-//! where an output has no room left.
+//! `cycle` writes its events down; `count_cycle` and a run count them alone. `cycle`, `count_cycle` and `run` take no memory;
+//! `run_making_room` takes some where an output has no room left.
 //!
 //! # What it doesn't do
 //!
@@ -40,6 +40,6 @@ mod laws;
 mod trace;
 mod turns;
 
-pub use cycles::{cycle, make_room, run, run_making_room};
+pub use cycles::{count_cycle, cycle, make_room, run, run_making_room};
 pub use laws::{cycles_are_legal, rest_has_no_cycle, tiles_act_once};
 pub use trace::Trace;

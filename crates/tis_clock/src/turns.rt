@@ -3,19 +3,18 @@ ghost use Rattle.std.specs.Prelude.{◌≡◌, ◌<◌, ◌∷◌, [], length, f
 ghost use Rattle.tis_base.specs.declared.tiles.Dir.{Dir as AnyDir};
 ghost use Rattle.tis_base.specs.declared.tiles.Dir.TheVariants.{Down};
 ghost use Rattle.std.specs.List.{find, list_any};
-ghost use Rattle.tis_node.specs.NodeView.{node_view};
 ghost use Rattle.tis_grid.specs.Orders.{Fits};
 ghost use Rattle.tis_node.specs.Intents.{takes_from};
 ghost use Rattle.tis_grid.specs.declared.event.Event.TheVariants as event;
-ghost use Rattle.tis_grid.specs.Events.{IsEnabled, is_enabled, is_giving, is_waiting, next_tile};
-ghost use Rattle.tis_grid.specs.HeldState.{HasRoom};
+ghost use Rattle.tis_grid.specs.Events.{IsEnabled, is_enabled, is_giving, is_waiting, next_tile, after_event};
+ghost use Rattle.tis_grid.specs.HeldState.{HasRoom, spares_after};
 ghost use Rattle.tis_clock.specs.Cycle.{state_after};
 ghost use Rattle.tis_clock.specs.Cycle as cycle;
 ghost use Rattle.tis_clock.specs.Turns.{kept_at, acts, room_behind, Keeps};
 
 use tis_base::{Dir, Tile};
 use tis_grid::{Event, Grid, State};
-use tis_node::{Intent, Mode, Node};
+use tis_node::Intent;
 
 /// How many tiles a grid has.
 pub(crate) const TILES: usize = 12;
@@ -26,30 +25,12 @@ pub(crate) const COUNT: u8 = 12;
 // The number of the first tile of the bottom row.
 const BOTTOM: u8 = 8;
 
-// Whether a node writes.
-#[inline(always)]
-fn is_writing(node: &Node) -> bool
-    ensures { result ≡ cycle.is_writing (node_view node.now).mode }
-{
-    match node.mode {
-        Mode::Ready => false,
-        Mode::Writing { .. } => true,
-    }
-}
-
 /// Which tiles are writing.
 #[inline(always)]
-pub(crate) fn writers(grid: &Grid, state: &State) -> [bool; TILES]
-    requires { Fits grid.now state.now.state }
+pub(crate) fn writers(state: &State) -> [bool; TILES]
     ensures { Keeps result state.now.state }
 {
-    // The call tells the proof how many tiles there are.
-    grid.puzzle().tiles.shape();
-    let mut writing = [false; TILES];
-    for number in 0..COUNT {
-        writing[number as usize] = is_writing(&state.node(Tile { number }));
-    }
-    writing
+    state.writers()
 }
 
 /// Whether any tile was writing when the cycle began.
@@ -212,6 +193,19 @@ fn take(
     }
 }
 
+// Applies an event. It stands out of line, so that what is done for each tile is short.
+#[inline(never)]
+fn happen(grid: &Grid, state: &mut State, event: Event)
+    requires fits { Fits grid.now state.old.state }
+    requires enabled { IsEnabled grid.now state.old.state event }
+    requires room { HasRoom state.old.spares event }
+    ensures state { state.new.state ≡ after_event grid.now state.old.state event }
+    ensures spares { state.new.spares ≡ spares_after state.old.spares event }
+    ensures fits { Fits grid.now state.new.state }
+{
+    grid.apply(state, event);
+}
+
 // Applies what a tile chose, where it chose anything.
 #[inline(always)]
 pub(crate) fn act(grid: &Grid, state: &mut State, chosen: Option<Event>)
@@ -223,8 +217,32 @@ pub(crate) fn act(grid: &Grid, state: &mut State, chosen: Option<Event>)
     ensures fits { Fits grid.now state.new.state }
 {
     if let Some(event) = chosen {
-        grid.apply(state, event);
+        happen(grid, state, event);
     }
+}
+
+// Does what a tile does that was ready when the cycle began, and whose instruction needs a port.
+#[inline(always)]
+fn read(
+    grid: &Grid,
+    writing: &[bool; TILES],
+    state: &mut State,
+    tile: Tile,
+    intent: Intent,
+) -> Option<Event>
+    requires fits { Fits grid.now state.old.state }
+    requires there { tile.number < length grid.now.puzzle.tiles.kinds }
+    requires ready { kept_at writing.now tile.number ≡ false }
+    requires local { is_enabled grid.now state.old.state (event.Local tile) ≡ false }
+    requires takes { (dir : AnyDir) → is_waiting grid.now state.old.state tile.number dir ≡ takes_from intent dir }
+    ensures chosen { result ≡ cycle.reads_or_steps grid.now (kept_at writing.now) state.old.state tile.number }
+    ensures state { state.new.state ≡ state_after grid.now state.old.state (acts result) }
+    ensures spares { state.new.spares ≡ state.old.spares }
+    ensures fits { Fits grid.now state.new.state }
+{
+    let taken = take(grid, writing, state, tile, intent);
+    act(grid, state, taken);
+    taken
 }
 
 /// What a tile does that was ready when the cycle began.
@@ -251,9 +269,7 @@ pub(crate) fn read_or_step(
     if intent.is_local() {
         return Some(Event::Local(tile));
     }
-    let taken = take(grid, writing, state, tile, intent);
-    act(grid, state, taken);
-    taken
+    read(grid, writing, state, tile, intent)
 }
 
 // The output whose column ends in this tile takes its value.

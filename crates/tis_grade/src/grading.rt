@@ -14,7 +14,7 @@ use crate::follow::Follow;
 use crate::verdict::Verdict;
 use std::alloc::Global;
 use tis_base::{NoMemory, Values};
-use tis_clock::{Trace, cycle, make_room};
+use tis_clock::{count_cycle, make_room};
 use tis_grid::{Grid, OutputAt, State};
 
 // How many columns a grid has.
@@ -166,7 +166,6 @@ pub fn grade(alloc: Global, grid: &Grid, limit: u64) -> Result<Verdict, NoMemory
 {
     let outputs = &grid.puzzle().outputs;
     let mut state = grid.start(alloc)?;
-    let mut trace = Trace::new();
     let mut follows = [
         follow_at(outputs, 0),
         follow_at(outputs, 1),
@@ -178,7 +177,7 @@ pub fn grade(alloc: Global, grid: &Grid, limit: u64) -> Result<Verdict, NoMemory
             return Ok(verdict);
         }
         make_room(&mut state)?;
-        if cycle(grid, &mut state, &mut trace) == 0 {
+        if count_cycle(grid, &mut state) == 0 {
             return Ok(Verdict::Stuck { cycles });
         }
     }

@@ -1,5 +1,6 @@
 -- A grid as the program holds it.
 use Rattle.std.specs.Prelude.{◌≡◌, ℕ, ◌<◌, ℤ, List, Option, Some, None, if◌then◌else◌, get_or, position, ◌==◌}
+use Rattle.tis_asm.specs.declared.program.MarkedInstr.{MarkedInstr}
 use Rattle.tis_asm.specs.Programs.{Programs}
 use Rattle.tis_grid.specs.declared.puzzle.Puzzle as declared
 use Rattle.tis_grid.specs.declared.puzzle.InputAt.{InputAt}
@@ -14,8 +15,9 @@ place_of inputs at = position (λ input. input.position == at) inputs
 abbrev pub input_values : Puzzle → ℕ → Option (List ℤ)
 input_values puzzle at = if has_input puzzle.inputs at then Some (values_at puzzle.inputs at) else None
 
--- it is a grid, its programs are for the puzzle's tiles, and the input of each position is found in one step
-pub record IsHeldGrid (puzzle : declared.Puzzle) (programs : Programs) (input_at : List (Option ℕ)) : Type 0 where
+-- it is a grid, its programs are for the puzzle's tiles, they stand there once more decoded, and the input of each position is found in one step
+pub record IsHeldGrid (puzzle : declared.Puzzle) (programs : Programs) (decoded : List (List MarkedInstr)) (input_at : List (Option ℕ)) : Type 0 where
   pub is_grid : IsGrid (record { puzzle = puzzle_of puzzle; programs = programs.programs })
   pub tiles : programs.tiles ≡ puzzle.tiles
+  pub same : decoded ≡ programs.programs
   pub inputs : (at : ℕ) → at < 4 → get_or input_at at None ≡ place_of puzzle.inputs.items at

@@ -1,5 +1,6 @@
 -- A state as the program holds it, with room for more values of its outputs.
-use Rattle.std.specs.Prelude.{ℕ, ◌-◌, ◌<◌, ◌≤◌, ◌^◌, List, [], ◌∷◌, Option, Some, None, option_map, unwrap_or, get_or, slice_set, min, IsSome}
+use Rattle.std.specs.Prelude.{◌≡◌, Bool, true, false, map, ℕ, ◌-◌, ◌<◌, ◌≤◌, ◌^◌, List, [], ◌∷◌, Option, Some, None, option_map, unwrap_or, get_or, slice_set, min, IsSome}
+use Rattle.tis_asm.specs.Node.{Node, Mode, Ready, Writing}
 use Rattle.tis_grid.specs.declared.event.Event.{Event}
 use Rattle.tis_grid.specs.declared.event.Event.TheVariants.{Local, Meet, In, Out, Push, Pop}
 use Rattle.tis_grid.specs.State.{State, output_taken}
@@ -8,6 +9,18 @@ use Rattle.tis_grid.specs.State.{State, output_taken}
 pub record HeldState : Type 0 where
   pub state : State
   pub spares : List (Option ℕ)
+
+-- whether a node writes
+abbrev pub writes_in : Mode → Bool
+writes_in Ready = false
+writes_in (Writing value toward) = true
+
+abbrev pub writes : Node → Bool
+writes node = writes_in node.mode
+
+-- of each node it is kept whether it writes
+abbrev pub AreWriting : List Bool → List Node → Type 0
+AreWriting writing nodes = writing ≡ map writes nodes
 
 -- how many more values the output at a position takes without taking memory, where one stands there
 abbrev pub output_spare : List (Option ℕ) → ℕ → Option ℕ

@@ -51,7 +51,7 @@ impl Grid {
         if !self.is_compute(tile) {
             return Intent::Nothing;
         }
-        state.advance(tile, self.program(tile))
+        state.advance(tile, self.decoded(tile))
     }
 
     // Does what an event does.

@@ -17,7 +17,7 @@ use crate::grid::Grid;
 use crate::state::State;
 use tis_asm::Program;
 use tis_base::{Dir, Tile, TileKind};
-use tis_node::{Intent, Node};
+use tis_node::{Decoded, Intent, Node};
 
 // How many columns, and how many tiles a grid has.
 const WIDTH: u8 = 4;
@@ -89,6 +89,18 @@ impl Grid {
         self.programs.of(tile)
     }
 
+    // The program of a tile, decoded.
+    #[inline(always)]
+    pub(crate) fn decoded(&self, tile: Tile) -> &Decoded
+        requires { tile.number < length self.now.puzzle.tiles.kinds }
+        ensures program { result.now ≡ event.program_of self.now tile.number }
+        ensures sound { IsSound result.now }
+    {
+        // The call tells the proof how many tiles there are.
+        self.puzzle.tiles.shape();
+        &self.decoded[tile.number as usize]
+    }
+
     /// The tile that is next in a direction, where one is there.
     #[inline(always)]
     pub fn next(&self, tile: Tile, dir: Dir) -> Option<Tile>
@@ -116,7 +128,7 @@ impl Grid {
         if !self.is_compute(tile) {
             return Intent::Nothing;
         }
-        state.node_of(tile).intent(self.program(tile))
+        state.node_of(tile).intent_by(self.decoded(tile))
     }
 
     // Whether a compute tile waits for a value from a port.
@@ -129,7 +141,7 @@ impl Grid {
         if !self.is_compute(tile) {
             return false;
         }
-        state.node_of(tile).wants(self.program(tile), dir)
+        state.node_of(tile).waits_for(self.decoded(tile), dir)
     }
 
     /// Whether a compute tile gives a value to a port.

@@ -5,6 +5,7 @@ ghost use Rattle.tis_base.specs.Answers.{Gives};
 ghost use Rattle.tis_base.specs.Saturation.{IsValue};
 ghost use Rattle.tis_base.specs.declared.tiles.Dir.TheVariants as dir;
 ghost use Rattle.tis_base.specs.Tiles as tiles;
+ghost use Rattle.tis_base.specs.Tiles.{IsOnGrid};
 ghost use Rattle.tis_asm.specs.Programs.{IsSound, program_at};
 ghost use Rattle.tis_grid.specs.Puzzle.{puzzle_of, has_output, has_input};
 ghost use Rattle.tis_grid.specs.State as at;
@@ -18,14 +19,16 @@ use crate::state::{COLUMNS, State, TILES, no_stacks};
 use std::alloc::Global;
 use std::marker::Model;
 use tis_asm::Programs;
-use tis_base::{Dir, NoMemory, Values};
-use tis_node::Node;
+use tis_base::{Dir, NoMemory, Tile, Values};
+use tis_node::{Decoded, Node};
 
 /// A puzzle, and a program for each of its tiles. Contracts see the two.
 #[derive(Debug, Drop)]
 pub struct Grid {
     pub(crate) puzzle: Puzzle,
     pub(crate) programs: Programs,
+    // The same programs, decoded.
+    pub(crate) decoded: [Decoded; TILES],
     // The index of the input at each position.
     input_at: [Option<usize>; COLUMNS],
 }
@@ -39,7 +42,7 @@ impl Model for Grid {
 
     ghost view = { λ g. record { puzzle = puzzle_of g.puzzle; programs = g.programs.programs } };
 
-    ghost invariant = { λ g. IsHeldGrid g.puzzle g.programs g.input_at };
+    ghost invariant = { λ g. IsHeldGrid g.puzzle g.programs g.decoded g.input_at };
 }
 
 // The index of the input at a position.
@@ -65,6 +68,36 @@ fn stands_at(outputs: &[OutputAt], position: u8) -> bool
     outputs.iter().any(|output| output.position == position)
 }
 
+// The program of a tile, decoded.
+fn decode(programs: &Programs, number: u8) -> Decoded
+    requires { IsOnGrid programs.now.tiles number }
+    ensures { result ≡ program_at programs.now.programs number }
+{
+    Decoded::new(programs.of(Tile { number }))
+}
+
+// Each program, decoded. They are written out, since a decoded program isn't `Copy`.
+fn decode_all(programs: &Programs) -> [Decoded; TILES]
+    ensures { result ≡ programs.now.programs }
+{
+    // The call tells the proof how many tiles there are.
+    programs.tiles().shape();
+    [
+        decode(programs, 0),
+        decode(programs, 1),
+        decode(programs, 2),
+        decode(programs, 3),
+        decode(programs, 4),
+        decode(programs, 5),
+        decode(programs, 6),
+        decode(programs, 7),
+        decode(programs, 8),
+        decode(programs, 9),
+        decode(programs, 10),
+        decode(programs, 11),
+    ]
+}
+
 impl Grid {
     /// The grid of a puzzle and programs for its tiles.
     pub fn new(puzzle: Puzzle, programs: Programs) -> Grid
@@ -84,9 +117,11 @@ impl Grid {
         for position in 0..COLUMNS {
             input_at[position] = index_of(&puzzle.inputs, position as u8);
         }
+        let decoded = decode_all(&programs);
         Grid {
             puzzle,
             programs,
+            decoded,
             input_at,
         }
     }
@@ -159,6 +194,7 @@ impl Grid {
         self.puzzle.tiles.shape();
         Ok(State {
             nodes: [Node::fresh(); TILES],
+            writing: [false; TILES],
             stacks: no_stacks(),
             left: [
                 self.input_len(0),

@@ -6,26 +6,49 @@ ghost use Rattle.tis_asm.specs.Programs.{IsSound};
 ghost use Rattle.tis_node.specs.Intents.{is_local, takes_from, gives_to};
 ghost use Rattle.tis_node.specs.NodeView.{node_view};
 ghost use Rattle.tis_grid.specs.State.{node_at};
+ghost use Rattle.tis_grid.specs.HeldState as held;
 ghost use Rattle.tis_grid.specs.Events.{with_node};
 
-use crate::state::State;
-use tis_asm::Program;
+use crate::state::{State, TILES};
 use tis_base::Tile;
-use tis_node::{Intent, Node};
+use tis_node::{Decoded, Intent, Mode, Node};
+
+// Whether a node writes.
+#[inline(always)]
+fn writes(node: &Node) -> bool
+    ensures { result ≡ held.writes (node_view node.now) }
+{
+    match node.mode {
+        Mode::Ready => false,
+        Mode::Writing { .. } => true,
+    }
+}
+
+/// Which of these nodes write.
+pub(crate) fn writers_of(nodes: &[Node; TILES]) -> [bool; TILES]
+    ensures { result ≡ map held.writes (map node_view nodes.now) }
+{
+    let mut writing = [false; TILES];
+    for tile in 0..TILES {
+        writing[tile] = writes(&nodes[tile]);
+    }
+    writing
+}
 
 // Makes the step of one of the nodes where it stands, where it can make one without a port, and tells what it would do.
 #[inline(always)]
-fn advance_at(nodes: &mut [Node], index: usize, program: &Program) -> Intent
+fn advance_at(nodes: &mut [Node], index: usize, decoded: &Decoded) -> Intent
     requires within { index < length nodes.old }
-    requires sound { IsSound program.now }
-    requires fits { table.FitsProgram program.now (get_or (map node_view nodes.old) index table.fresh) }
-    ensures local { table.can_local program.now (get_or (map node_view nodes.old) index table.fresh) ≡ is_local result }
-    ensures takes { (dir : AnyDir) → table.wants program.now (get_or (map node_view nodes.old) index table.fresh) dir ≡ takes_from result dir }
+    requires sound { IsSound decoded.now }
+    requires fits { table.FitsProgram decoded.now (get_or (map node_view nodes.old) index table.fresh) }
+    ensures local { table.can_local decoded.now (get_or (map node_view nodes.old) index table.fresh) ≡ is_local result }
+    ensures takes { (dir : AnyDir) → table.wants decoded.now (get_or (map node_view nodes.old) index table.fresh) dir ≡ takes_from result dir }
     ensures gives { (dir : AnyDir) → is_some (table.offers (get_or (map node_view nodes.old) index table.fresh) dir) ≡ gives_to result dir }
-    ensures steps { IsTrue (is_local result) → map node_view nodes.new ≡ slice_set (map node_view nodes.old) index (table.local_step program.now (get_or (map node_view nodes.old) index table.fresh)) }
+    ensures steps { IsTrue (is_local result) → map node_view nodes.new ≡ slice_set (map node_view nodes.old) index (table.local_step decoded.now (get_or (map node_view nodes.old) index table.fresh)) }
     ensures stays { ¬ IsTrue (is_local result) → map node_view nodes.new ≡ map node_view nodes.old }
+    ensures alone { map node_view nodes.new ≡ slice_set (map node_view nodes.old) index (get_or (map node_view nodes.new) index table.fresh) }
 {
-    nodes[index].advance(program)
+    nodes[index].advance(decoded)
 }
 
 impl State {
@@ -44,21 +67,26 @@ impl State {
         requires { tile.number < length self.old.state.nodes }
         ensures { self.new ≡ record self.old { state = with_node self.old.state tile.number (node_view node) } }
     {
+        let writes = writes(&node);
         self.nodes[tile.number as usize] = node;
+        self.writing[tile.number as usize] = writes;
     }
 
     // Makes the step of the node of a tile, where it can make one without a port, and tells what it would do.
     #[inline(always)]
-    pub(crate) fn advance(&mut self, tile: Tile, program: &Program) -> Intent
+    pub(crate) fn advance(&mut self, tile: Tile, decoded: &Decoded) -> Intent
         requires within { tile.number < length self.old.state.nodes }
-        requires sound { IsSound program.now }
-        requires fits { table.FitsProgram program.now (node_at self.old.state tile.number) }
-        ensures local { table.can_local program.now (node_at self.old.state tile.number) ≡ is_local result }
-        ensures takes { (dir : AnyDir) → table.wants program.now (node_at self.old.state tile.number) dir ≡ takes_from result dir }
+        requires sound { IsSound decoded.now }
+        requires fits { table.FitsProgram decoded.now (node_at self.old.state tile.number) }
+        ensures local { table.can_local decoded.now (node_at self.old.state tile.number) ≡ is_local result }
+        ensures takes { (dir : AnyDir) → table.wants decoded.now (node_at self.old.state tile.number) dir ≡ takes_from result dir }
         ensures gives { (dir : AnyDir) → is_some (table.offers (node_at self.old.state tile.number) dir) ≡ gives_to result dir }
-        ensures steps { IsTrue (is_local result) → self.new ≡ record self.old { state = with_node self.old.state tile.number (table.local_step program.now (node_at self.old.state tile.number)) } }
+        ensures steps { IsTrue (is_local result) → self.new ≡ record self.old { state = with_node self.old.state tile.number (table.local_step decoded.now (node_at self.old.state tile.number)) } }
         ensures stays { ¬ IsTrue (is_local result) → self.new ≡ self.old }
     {
-        advance_at(&mut self.nodes, tile.number as usize, program)
+        let index = tile.number as usize;
+        let intent = advance_at(&mut self.nodes, index, decoded);
+        self.writing[index] = writes(&self.nodes[index]);
+        intent
     }
 }

@@ -5,10 +5,11 @@ ghost use Rattle.tis_grid.specs.Orders.{Fits};
 ghost use Rattle.tis_grid.specs.State.{Grid as SomeGrid, State as SomeState, node_at, stack_at, input_left, left_at, output_taken, outs};
 ghost use Rattle.tis_devices.specs.Stack.{ROOM, newest, without_newest};
 ghost use Rattle.tis_grid.specs.declared.event.Event.TheVariants as event;
-ghost use Rattle.tis_grid.specs.HeldState.{output_spare, spare_at, least_spare, spares_after, HasSpare, HasRoomEach, NeverFall};
+ghost use Rattle.tis_grid.specs.HeldState.{output_spare, spare_at, least_spare, spares_after, HasSpare, HasRoomEach, NeverFall, writes};
 ghost use Rattle.tis_grid.specs.Events.{with_stack};
 ghost use Rattle.tis_grid.specs.Points.{point_of, returned, HasTaken, CanReturn, cut, cut_each};
 
+use crate::nodes::writers_of;
 use crate::point::Point;
 use std::marker::Model;
 use tis_base::{NoMemory, Tile, Value, Values};
@@ -27,6 +28,8 @@ pub(crate) const COLUMNS: usize = 4;
 #[derive(Debug, Drop)]
 pub struct State {
     pub(crate) nodes: [Node; TILES],
+    // Which of the nodes write.
+    pub(crate) writing: [bool; TILES],
     pub(crate) stacks: [Stack; TILES],
     pub(crate) left: [Option<usize>; COLUMNS],
     pub(crate) outs: [Option<Values>; COLUMNS],
@@ -35,7 +38,7 @@ pub struct State {
 impl Model for State {
     ghost use Rattle.std.specs.Prelude.{map, option_map};
     ghost use Rattle.tis_node.specs.NodeView.{node_view};
-    ghost use Rattle.tis_grid.specs.HeldState.{HeldState};
+    ghost use Rattle.tis_grid.specs.HeldState.{HeldState, AreWriting};
 
     ghost Value = { HeldState };
 
@@ -48,6 +51,8 @@ impl Model for State {
       };
       spares = map (option_map (λ v. v.spare)) s.outs;
     } };
+
+    ghost invariant = { λ s. AreWriting s.writing (map node_view s.nodes) };
 }
 
 // As many stacks, each without a value. They are written out, since a stack isn't `Copy`.
@@ -235,6 +240,14 @@ impl State {
         self.nodes[tile.number as usize]
     }
 
+    /// Which of the nodes write, by tile.
+    #[inline(always)]
+    pub fn writers(&self) -> [bool; TILES]
+        ensures { result ≡ map writes self.now.state.nodes }
+    {
+        self.writing
+    }
+
     /// The stack of a memory tile.
     #[inline]
     pub fn stack(&self, tile: Tile) -> &Stack
@@ -316,6 +329,7 @@ impl State {
     {
         cut_all(&mut self.outs, &point.lengths);
         self.nodes = copy_nodes(&point.nodes);
+        self.writing = writers_of(&point.nodes);
         self.stacks = copy_stacks(&point.stacks);
         self.left = point.left;
     }

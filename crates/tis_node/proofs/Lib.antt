@@ -1,1 +1,3 @@
 mod Advancing
+mod Products
+mod Rows

@@ -1,5 +1,5 @@
 -- What a node would do next, told at once.
-use Rattle.std.specs.Prelude.{Bool, true, false, ℕ, List, Option, Some, None}
+use Rattle.std.specs.Prelude.{Bool, true, false, List, Option, Some, None}
 use Rattle.tis_base.specs.declared.tiles.Dir.{Dir}
 use Rattle.tis_asm.specs.declared.instr.Source.{Source}
 use Rattle.tis_asm.specs.declared.instr.Instr.{Instr}

@@ -1,3 +1,4 @@
 pub mod NodeView
 pub mod SupplyView
 pub mod Intents
+pub mod Rows

@@ -20,8 +20,11 @@
 //! instruction at `pc`.
 #![tactic(auto)]
 
+mod decoded;
 mod node;
+mod row;
 
+pub use decoded::Decoded;
 pub use node::{Intent, Mode, Node, Toward};
 
 #[cfg(test)]

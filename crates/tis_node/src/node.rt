@@ -2,11 +2,15 @@
 ghost use Rattle.std.specs.Prelude.{◌≡◌, ◌↔◌, ◌<◌, IsTrue, IsSome, is_some, length};
 ghost use Rattle.tis_asm.specs.Programs.{HasValues, IsSound};
 ghost use Rattle.tis_asm.specs.Node as table;
+ghost use Rattle.tis_asm.specs.Node.{Ready};
+ghost use Rattle.tis_node.specs.Rows.{by_row};
 ghost use Rattle.tis_node.specs.NodeView.{node_view, toward_view};
 ghost use Rattle.tis_node.specs.SupplyView.{supply_view};
 ghost use Rattle.tis_node.specs.Intents as intents;
 ghost use Rattle.tis_base.specs.declared.tiles.Dir.{Dir as AnyDir};
 
+use crate::decoded::Decoded;
+use crate::row::Row;
 use tis_asm::{Dest, Instr, Jump, Program, Source};
 use tis_base::{Dir, Value};
 
@@ -101,7 +105,7 @@ fn source_of(instr: &Instr) -> Option<Source>
 
 // Whether a jump is made, by the number in ACC.
 #[inline(always)]
-fn jumps(jump: Jump, acc: Value) -> bool
+pub(crate) fn jumps(jump: Jump, acc: Value) -> bool
     ensures { result ≡ table.jumps jump acc }
 {
     let acc = acc.get();
@@ -116,7 +120,7 @@ fn jumps(jump: Jump, acc: Value) -> bool
 
 // So many instructions on or back from a number, but not before the first one nor behind the last one.
 #[inline(always)]
-fn away(program: &Program, pc: u8, by: Value) -> u8
+pub(crate) fn away(program: &Program, pc: u8, by: Value) -> u8
     requires { pc < length program.now }
     ensures { result ≡ table.away program.now pc by }
 {
@@ -374,6 +378,63 @@ impl Node {
         }
     }
 
+    // The same of a node that is ready, by the row of its instruction, where that tells anything.
+    #[inline(always)]
+    fn intent_ready(&self, decoded: &Decoded) -> Intent
+        requires fits { table.FitsProgram decoded.now (node_view self.now) }
+        requires ready { (node_view self.now).mode ≡ Ready }
+        ensures local { table.can_local decoded.now (node_view self.now) ≡ intents.is_local result }
+        ensures takes { (dir : AnyDir) → table.wants decoded.now (node_view self.now) dir ≡ intents.takes_from result dir }
+        ensures gives { (dir : AnyDir) → is_some (table.offers (node_view self.now) dir) ≡ intents.gives_to result dir }
+    {
+        let program = decoded.program();
+        let row = decoded.row(self.pc);
+        if row.tells {
+            return Intent::Local;
+        }
+        match row.waits {
+            Some(port) => Intent::Takes(port),
+            None => self.intent(program),
+        }
+    }
+
+    /// The same of a node of a program that was decoded.
+    #[inline(always)]
+    pub fn intent_by(&self, decoded: &Decoded) -> Intent
+        requires fits { table.FitsProgram decoded.now (node_view self.now) }
+        ensures local { table.can_local decoded.now (node_view self.now) ≡ intents.is_local result }
+        ensures takes { (dir : AnyDir) → table.wants decoded.now (node_view self.now) dir ≡ intents.takes_from result dir }
+        ensures gives { (dir : AnyDir) → is_some (table.offers (node_view self.now) dir) ≡ intents.gives_to result dir }
+    {
+        match self.mode {
+            Mode::Ready => self.intent_ready(decoded),
+            Mode::Writing {
+                to: Toward::One(port),
+                ..
+            } => Intent::Gives(port),
+            Mode::Writing {
+                to: Toward::Any,
+                ..
+            } => Intent::GivesAny,
+        }
+    }
+
+    /// Whether a node of a program that was decoded waits for a value from this port.
+    #[inline(always)]
+    pub fn waits_for(&self, decoded: &Decoded, dir: Dir) -> bool
+        requires fits { table.FitsProgram decoded.now (node_view self.now) }
+        ensures { result ≡ table.wants decoded.now (node_view self.now) dir }
+    {
+        match self.intent_by(decoded) {
+            Intent::Takes(port) => port == dir,
+            Intent::TakesAny => true,
+            Intent::Nothing => false,
+            Intent::Local => false,
+            Intent::Gives(_) => false,
+            Intent::GivesAny => false,
+        }
+    }
+
     /// Whether the node can make a local step: it is ready, and its instruction needs no port.
     #[inline]
     pub fn can_local(&self, program: &Program) -> bool
@@ -449,12 +510,26 @@ impl Node {
         }
     }
 
-    /// Makes the node's local step, where it can make one, and tells what it would do: [`Node::intent`] and
-    /// [`Node::local`] in one look.
+    // Does what a row tells.
     #[inline(always)]
-    pub fn advance(&mut self, program: &Program) -> Intent
+    fn step_by(&mut self, row: &Row)
+        requires { (node_view self.old).mode ≡ Ready }
+        ensures { node_view self.new ≡ by_row row.now (node_view self.old) }
+    {
+        let acc = self.acc;
+        let bak = self.bak;
+        self.pc = row.pc(acc);
+        self.acc = row.acc(acc, bak);
+        self.bak = row.bak(acc, bak);
+    }
+
+    // Does the instruction at the pc, where it needs no port, and tells what it would do.
+    #[inline(never)]
+    fn advance_here(&mut self, program: &Program) -> Intent
         requires sound { IsSound program.now }
+        requires values { HasValues program.now }
         requires fits { table.FitsProgram program.now (node_view self.old) }
+        requires ready { (node_view self.old).mode ≡ Ready }
         ensures local { table.can_local program.now (node_view self.old) ≡ intents.is_local result }
         ensures takes { (dir : AnyDir) → table.wants program.now (node_view self.old) dir ≡ intents.takes_from result dir }
         ensures gives { (dir : AnyDir) → is_some (table.offers (node_view self.old) dir) ≡ intents.gives_to result dir }
@@ -462,11 +537,53 @@ impl Node {
         ensures stays { ¬ IsTrue (intents.is_local result) → node_view self.new ≡ node_view self.old }
         ensures fits { table.FitsProgram program.now (node_view self.new) }
     {
+        match self.instr(program) {
+            None => Intent::Nothing,
+            Some(instr) => self.advance_by(instr, program),
+        }
+    }
+
+    // Makes the local step of a node that is ready, where it can make one, by the row of its instruction, where that tells
+    // anything.
+    #[inline(always)]
+    fn advance_ready(&mut self, decoded: &Decoded) -> Intent
+        requires sound { IsSound decoded.now }
+        requires fits { table.FitsProgram decoded.now (node_view self.old) }
+        requires ready { (node_view self.old).mode ≡ Ready }
+        ensures local { table.can_local decoded.now (node_view self.old) ≡ intents.is_local result }
+        ensures takes { (dir : AnyDir) → table.wants decoded.now (node_view self.old) dir ≡ intents.takes_from result dir }
+        ensures gives { (dir : AnyDir) → is_some (table.offers (node_view self.old) dir) ≡ intents.gives_to result dir }
+        ensures steps { IsTrue (intents.is_local result) → node_view self.new ≡ table.local_step decoded.now (node_view self.old) }
+        ensures stays { ¬ IsTrue (intents.is_local result) → node_view self.new ≡ node_view self.old }
+        ensures fits { table.FitsProgram decoded.now (node_view self.new) }
+    {
+        let program = decoded.program();
+        let row = decoded.row(self.pc);
+        if row.tells {
+            self.step_by(row);
+            return Intent::Local;
+        }
+        match row.waits {
+            Some(port) => Intent::Takes(port),
+            None => self.advance_here(program),
+        }
+    }
+
+    /// Makes the node's local step, where it can make one, and tells what it would do: [`Node::intent`] and
+    /// [`Node::local`] in one look.
+    #[inline(always)]
+    pub fn advance(&mut self, decoded: &Decoded) -> Intent
+        requires sound { IsSound decoded.now }
+        requires fits { table.FitsProgram decoded.now (node_view self.old) }
+        ensures local { table.can_local decoded.now (node_view self.old) ≡ intents.is_local result }
+        ensures takes { (dir : AnyDir) → table.wants decoded.now (node_view self.old) dir ≡ intents.takes_from result dir }
+        ensures gives { (dir : AnyDir) → is_some (table.offers (node_view self.old) dir) ≡ intents.gives_to result dir }
+        ensures steps { IsTrue (intents.is_local result) → node_view self.new ≡ table.local_step decoded.now (node_view self.old) }
+        ensures stays { ¬ IsTrue (intents.is_local result) → node_view self.new ≡ node_view self.old }
+        ensures fits { table.FitsProgram decoded.now (node_view self.new) }
+    {
         match self.mode {
-            Mode::Ready => match self.instr(program) {
-                None => Intent::Nothing,
-                Some(instr) => self.advance_by(instr, program),
-            },
+            Mode::Ready => self.advance_ready(decoded),
             Mode::Writing {
                 to: Toward::One(port),
                 ..

@@ -1,5 +1,5 @@
 -- The two halves are the cycle.
-use Rattle.std.proofs.Common.{◌≡◌, ◌+◌, ◌++◌, length, List, refl, sym, ap, ◌∙◌, arith, length-append}
+use Rattle.std.proofs.Common.{◌≡◌, ◌+◌, ◌++◌, length, List, refl, ap, ◌∙◌, arith, length-append}
 use Rattle.tis_grid.specs.declared.event.Event.{Event}
 use Rattle.tis_clock.specs.Cycle.{reads_or_steps, gives_out, in_turn, all_tiles}
 use Rattle.tis_clock.specs.Turns.{kept_at}

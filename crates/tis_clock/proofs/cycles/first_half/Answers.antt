@@ -1,5 +1,5 @@
 -- Each tile takes its turn.
-use Rattle.std.proofs.Common.{◌≡◌, ℕ, ◌+◌, [], ◌<◌, ◌≤◌, length, sym, ap, subst, ◌∙◌, arith, List, refl}
+use Rattle.std.proofs.Common.{ℕ, [], ◌<◌, ◌≤◌, length, sym, ap, subst, ◌∙◌, arith, List, refl}
 use Rattle.tis_grid.specs.declared.event.Event.{Event}
 use Rattle.tis_clock.specs.Cycle.{reads_or_steps, state_after}
 use Rattle.tis_clock.specs.Turns.{kept_at}

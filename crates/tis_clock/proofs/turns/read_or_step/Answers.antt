@@ -5,35 +5,21 @@ use Rattle.tis_node.specs.Intents.{is_local}
 use Rattle.tis_grid.specs.declared.event.Event.{Event}
 use Rattle.tis_grid.specs.declared.event.Event.TheVariants.{Local}
 use Rattle.tis_grid.specs.State.{State}
-use Rattle.tis_grid.specs.Events.{is_enabled, is_waiting, IsEnabled}
-use Rattle.tis_grid.specs.HeldState.{HasRoom}
+use Rattle.tis_grid.specs.Events.{is_enabled, is_waiting}
 use Rattle.tis_clock.specs.Cycle.{ways_of_ready, first_way, reads_or_steps, state_after}
 use Rattle.tis_clock.specs.Turns.{kept_at, acts}
 use Rattle.tis_clock.proofs.Intended.{not_true, steps}
-use Rattle.tis_clock.proofs.Room.{GivesNoOutput, if_chosen, reads_can, reads_give_none, no_room_asked, room_stays}
 use Rattle.tis_clock.proofs.turns.read_or_step.Goals as goal
 
-pub take-taken-requires-clause-local : goal.take-taken-requires-clause-local
-take-taken-requires-clause-local c =
+pub read-requires-clause-local : goal.read-requires-clause-local
+read-requires-clause-local c =
     let not_local : is_local c.advance-intent.result ≡ false = sym c.is_local.ensures ∙ c.if-is_local.false in
     ap (λ (s : State). is_enabled c.args.grid.now s (Local c.args.tile)) (c.advance-intent.ensures.stays (not_true (is_local c.advance-intent.result) not_local)) ∙ c.advance-intent.ensures.local ∙ not_local
 
-pub take-taken-requires-clause-takes : goal.take-taken-requires-clause-takes
-take-taken-requires-clause-takes c =
+pub read-requires-clause-takes : goal.read-requires-clause-takes
+read-requires-clause-takes c =
     let not_local : is_local c.advance-intent.result ≡ false = sym c.is_local.ensures ∙ c.if-is_local.false in
     λ dir. ap (λ (s : State). is_waiting c.args.grid.now s c.args.tile.number dir) (c.advance-intent.ensures.stays (not_true (is_local c.advance-intent.result) not_local)) ∙ c.advance-intent.ensures.takes dir
-
-pub act-requires-clause-enabled : goal.act-requires-clause-enabled
-act-requires-clause-enabled c =
-    let here = c.advance-intent.new.state.state in
-    if_chosen (λ (event : Event). IsEnabled c.args.grid.now here event) c.take-taken.result (reads_or_steps c.args.grid.now (kept_at c.args.writing.now) here c.args.tile.number) c.take-taken.ensures
-    (reads_can c.args.grid.now (kept_at c.args.writing.now) here c.args.tile.number)
-
-pub act-requires-clause-room : goal.act-requires-clause-room
-act-requires-clause-room c =
-    let here = c.advance-intent.new.state.state in
-    if_chosen (λ (event : Event). HasRoom c.advance-intent.new.state.spares event) c.take-taken.result (reads_or_steps c.args.grid.now (kept_at c.args.writing.now) here c.args.tile.number) c.take-taken.ensures
-    (λ event is. no_room_asked c.advance-intent.new.state.spares event (reads_give_none c.args.grid.now (kept_at c.args.writing.now) here c.args.tile.number event is))
 
 pub returns-then-was_writing-clause-chosen : goal.returns-then-was_writing-clause-chosen
 returns-then-was_writing-clause-chosen c =
@@ -47,17 +33,9 @@ returns-then-is_local-clause-chosen c =
 pub returns-clause-chosen : goal.returns-clause-chosen
 returns-clause-chosen c =
     let not_local : is_local c.advance-intent.result ≡ false = sym c.is_local.ensures ∙ c.if-is_local.false in
-    c.take-taken.ensures ∙ ap (λ (s : State). reads_or_steps c.args.grid.now (kept_at c.args.writing.now) s c.args.tile.number) (c.advance-intent.ensures.stays (not_true (is_local c.advance-intent.result) not_local))
+    c.read.ensures.chosen ∙ ap (λ (s : State). reads_or_steps c.args.grid.now (kept_at c.args.writing.now) s c.args.tile.number) (c.advance-intent.ensures.stays (not_true (is_local c.advance-intent.result) not_local))
 
 pub returns-clause-state : goal.returns-clause-state
 returns-clause-state c =
     let not_local : is_local c.advance-intent.result ≡ false = sym c.is_local.ensures ∙ c.if-is_local.false in
-    c.act.ensures.state ∙ ap (λ (s : State). state_after c.args.grid.now s (acts c.take-taken.result)) (c.advance-intent.ensures.stays (not_true (is_local c.advance-intent.result) not_local))
-
-pub returns-clause-spares : goal.returns-clause-spares
-returns-clause-spares c =
-    let here = c.advance-intent.new.state.state in
-    let choice = reads_or_steps c.args.grid.now (kept_at c.args.writing.now) here c.args.tile.number in
-    c.act.ensures.spares
-    ∙ room_stays c.advance-intent.new.state.spares c.take-taken.result (if_chosen GivesNoOutput c.take-taken.result choice c.take-taken.ensures (reads_give_none c.args.grid.now (kept_at c.args.writing.now) here c.args.tile.number))
-    ∙ c.advance-intent.ensures.spares
+    c.read.ensures.state ∙ ap (λ (s : State). state_after c.args.grid.now s (acts c.read.result)) (c.advance-intent.ensures.stays (not_true (is_local c.advance-intent.result) not_local))

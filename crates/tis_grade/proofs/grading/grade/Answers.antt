@@ -1,5 +1,4 @@
-use Rattle.std.proofs.Common.{◌≡◌, ℕ, suc, ◌+◌, ◌-◌, Bool, true, false, List, length, sym, ap, subst, ◌∙◌, arith}
-use Rattle.tis_grid.specs.declared.event.Event.{Event}
+use Rattle.std.proofs.Common.{◌≡◌, ℕ, suc, ◌+◌, ◌-◌, Bool, true, false, length, sym, ap, subst, ◌∙◌, arith}
 use Rattle.tis_grid.specs.State.{State}
 use Rattle.tis_grid.specs.Choices.{enabled_events}
 use Rattle.tis_clock.specs.Cycle.{cycle_events, after_cycle}
@@ -18,12 +17,12 @@ returns-in-Some c =
     let is = decided_already (first_fault grid state) (where_holds (are_done grid state) (Passed cycles)) (where_holds (is_none (enabled_events grid state)) (Stuck cycles)) c.in-Some.verdict c.in-Some.ensures.verdict in
     sym (c.loop-cycles.invariant.later ∙ verdict_here grid c.args.limit state cycles (c.args.limit - cycles) c.in-Some.verdict is)
 
-pub returns-then-cycle-eq0 : goal.returns-then-cycle-eq0
-returns-then-cycle-eq0 c =
+pub returns-then-count_cycle-eq0 : goal.returns-then-count_cycle-eq0
+returns-then-count_cycle-eq0 c =
     let grid = c.args.grid.now in
     let state = c.loop-cycles.state.state in
     let cycles = c.loop-cycles.cycles in
-    let none : length (cycle_events grid c.make_room.new.state.state) ≡ 0 = ap (λ (events : List Event). length events) (sym c.cycle.ensures.trace) ∙ sym c.cycle.ensures.count ∙ c.if-cycle-eq0.true in
+    let none : length (cycle_events grid c.make_room.new.state.state) ≡ 0 = sym c.count_cycle.ensures.count ∙ c.if-count_cycle-eq0.true in
     let rest = subst (λ (s : State). is_none (enabled_events grid s) ≡ true) c.make_room.ensures.state (rest_listed grid c.make_room.new.state.state c.puzzle.ensures.grid (rests grid c.make_room.new.state.state c.puzzle.ensures.grid none)) in
     let is = undecided (first_fault grid state) (where_holds (are_done grid state) (Passed cycles)) (where_holds (is_none (enabled_events grid state)) (Stuck cycles)) c.in_default.ensures.verdict ∙ ap (λ (b : Bool). where_holds b (Stuck cycles)) rest in
     sym (c.loop-cycles.invariant.later ∙ verdict_here grid c.args.limit state cycles (c.args.limit - cycles) (Stuck cycles) is)
@@ -34,13 +33,13 @@ loop-cycles-preserved c =
     let state = c.loop-cycles.state.state in
     let cycles = c.loop-cycles.cycles in
     let limit = c.args.limit in
-    let some : length (cycle_events grid c.make_room.new.state.state) ≡ 0 → ⊥ = λ none. c.if-cycle-eq0.false (c.cycle.ensures.count ∙ ap (λ (events : List Event). length events) c.cycle.ensures.trace ∙ none) in
+    let some : length (cycle_events grid c.make_room.new.state.state) ≡ 0 → ⊥ = λ none. c.if-count_cycle-eq0.false (c.count_cycle.ensures.count ∙ none) in
     let goes_on = subst (λ (s : State). is_none (enabled_events grid s) ≡ false) c.make_room.ensures.state (works_listed grid c.make_room.new.state.state c.puzzle.ensures.grid (works grid c.make_room.new.state.state c.puzzle.ensures.grid some)) in
     let undecided_yet = undecided (first_fault grid state) (where_holds (are_done grid state) (Passed cycles)) (where_holds (is_none (enabled_events grid state)) (Stuck cycles)) c.in_default.ensures.verdict ∙ ap (λ (b : Bool). where_holds b (Stuck cycles)) goes_on in
-    let next : c.cycle.new.state.state ≡ after_cycle grid state = c.cycle.ensures.state ∙ ap (λ (s : State). after_cycle grid s) c.make_room.ensures.state in
+    let next : c.count_cycle.new.state.state ≡ after_cycle grid state = c.count_cycle.ensures.state ∙ ap (λ (s : State). after_cycle grid s) c.make_room.ensures.state in
     let left : limit - cycles ≡ suc (limit - (cycles + 1)) = let below = c.loop-cycles-test.true in omega (arith, below) in
     record {
-      fits = c.cycle.ensures.fits;
+      fits = c.count_cycle.ensures.fits;
       behind = subst (λ (s : State). AreBehind grid.puzzle.outputs s c.judge.new.follows) (sym next) (cycle_leaves_behind grid state c.judge.new.follows c.puzzle.ensures.grid c.loop-cycles.invariant.fits c.in_default.ensures.followed);
       later =
           c.loop-cycles.invariant.later

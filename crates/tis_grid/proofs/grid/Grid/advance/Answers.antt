@@ -20,12 +20,12 @@ returns-clause-fits c =
     let tile = c.args.tile.number in
     let compute : is_compute_at grid tile ≡ true = sym c.is_compute.ensures.is ∙ c.if-not-is_compute.false in
     let can : can_local (program_of grid tile) (node_at state tile) ≡ is_local c.advance.result =
-    ap (λ (p : List MarkedInstr). can_local p (node_at state tile)) (sym c.program.ensures.program) ∙ c.advance.ensures.local in
+    ap (λ (p : List MarkedInstr). can_local p (node_at state tile)) (sym c.decoded.ensures.program) ∙ c.advance.ensures.local in
     elim (is_local c.advance.result) as (λ (b : Bool). is_local c.advance.result ≡ b → Fits grid c.advance.new.self.state) [
       | true ↦ λ yes.
           let enabled : is_enabled grid state (Local c.args.tile) ≡ true = and_from (is_compute_at grid tile) (can_local (program_of grid tile) (node_at state tile)) compute (can ∙ yes) in
           let after : c.advance.new.self.state ≡ after_event grid state (Local c.args.tile) =
-          ap (λ (h : HeldState). h.state) (c.advance.ensures.steps yes) ∙ ap (λ (p : List MarkedInstr). with_node state tile (local_step p (node_at state tile))) c.program.ensures.program in
+          ap (λ (h : HeldState). h.state) (c.advance.ensures.steps yes) ∙ ap (λ (p : List MarkedInstr). with_node state tile (local_step p (node_at state tile))) c.decoded.ensures.program in
           subst (λ (s : State). Fits grid s) (sym after) (event_fitting grid state (Local c.args.tile) c.puzzle.ensures.grid c.requires.fits (enabled_parts grid state (Local c.args.tile) enabled))
       | false ↦ λ no.
           let stays = c.advance.ensures.stays (λ is. let bad : true ≡ false = sym is ∙ no in absurd cc) in

@@ -23,5 +23,6 @@ invariant_of-result c =
         sound = c.requires.sound;
       };
       tiles = c.requires.tiles;
+      same = c.decode_all-decoded.ensures;
       inputs = λ at below. let before : at < c.loop-position.position = omega arith in c.loop-position.invariant.1 at before;
     }

@@ -5,7 +5,7 @@ use Rattle.tis_clock.specs.Cycle.{gives_out}
 use Rattle.tis_clock.specs.Turns.{kept_at}
 use Rattle.tis_clock.proofs.Halves.{Done}
 use Rattle.tis_clock.proofs.Room.{IsLeft}
-use Rattle.tis_clock.proofs.cycles.second_half.Given as goal
+use Rattle.tis_clock.proofs.cycles.give_all.Given as goal
 
 abbrev pub invariant-loop-number : goal.invariant-loop-number
 invariant-loop-number l = record {
