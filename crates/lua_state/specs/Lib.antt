@@ -1,0 +1,5 @@
+pub mod Stacks
+pub mod Variables
+pub mod Store
+pub mod Operations
+pub mod Held
