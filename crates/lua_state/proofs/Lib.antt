@@ -6,3 +6,4 @@ pub mod Comparing
 pub mod Made
 pub mod Naming
 pub mod Assigning
+pub mod Binding

@@ -2,4 +2,5 @@ pub mod Stacks
 pub mod Variables
 pub mod Store
 pub mod Operations
+pub mod Calls
 pub mod Held

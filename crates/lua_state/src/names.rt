@@ -44,7 +44,7 @@ impl HeldState {
     }
 
     // A new local, whose name is at a place among the texts.
-    fn declare_at(&mut self, at: usize, value: SmallValue) -> Result<(), NoMemory>
+    pub(crate) fn declare_at(&mut self, at: usize, value: SmallValue) -> Result<(), NoMemory>
         requires sound { IsSound self.old }
         requires inside { at < length self.old.texts }
         requires held { IsHeld self.old.texts value }

@@ -1,18 +1,20 @@
 //! The state of an evaluation, as callers see it.
 ghost use Rattle.std.specs.Prelude.{◌≡◌, [], ◌∷◌, ◌++◌, length, pos, IfOk, OnOk};
-ghost use Rattle.lua_machine.specs.Value.{Nil, Number, Table, Text, Truth, is_true};
+ghost use Rattle.lua_machine.specs.Value.{Nil, Number, Table, Truth, is_true};
+ghost use Rattle.lua_machine.specs.Value as lua;
 ghost use Rattle.lua_machine.specs.Operators.{text};
 ghost use Rattle.lua_machine.specs.State.{assigned, declared, value_of};
 ghost use Rattle.lua_machine.specs.Tables.{no_keys};
 ghost use Rattle.lua_machine.specs.Turn.{cut_to};
-ghost use Rattle.lua_machine.specs.Yields.{binary_result, floor_result, indexed, put, unary_result, with_member};
+ghost use Rattle.lua_machine.specs.Yields.{binary_result, floor_result, indexed, put, put_member, unary_result, with_member};
+ghost use Rattle.lua_state.specs.Calls.{called, left};
 ghost use Rattle.lua_state.specs.Held.{state_of, store_of};
 ghost use Rattle.lua_state.specs.Store.{Answers, ended, in_state, newest, parts, popped, pushed, starting, storing, with_done, with_ended, with_made, without};
 
 use crate::held::HeldState;
 use lua_machine::LuaError;
 use lua_numbers::LuaNumber;
-use lua_tree::{BinaryOp, UnaryOp};
+use lua_tree::{BinaryOp, Text, UnaryOp};
 use std::alloc::Global;
 use std::marker::Model;
 use tis_base::NoMemory;
@@ -186,7 +188,7 @@ impl LuaState {
 
     /// Stores the newest value, which is taken, under a name in a table.
     pub fn store_named(&mut self, alloc: Global, at: usize, name: &[u8]) -> Result<(), NoMemory>
-        ensures { OnOk result (store_of self.new ≡ storing at (Text name.now) (newest (store_of self.old).values) (popped (store_of self.old))) }
+        ensures { OnOk result (store_of self.new ≡ storing at (lua.Text name.now) (newest (store_of self.old).values) (popped (store_of self.old))) }
     {
         self.held.store_named(alloc, at, name)
     }
@@ -209,5 +211,33 @@ impl LuaState {
         ensures { Answers result (store_of self.new) (with_done (indexed line (with_member name.now (parts count (store_of self.old))) (state_of self.old)) (without count (store_of self.old))) }
     {
         self.held.select(alloc, count, name, line)
+    }
+
+    /// Enters a function with the newest so many values as its arguments; a missing one is nil.
+    pub fn enter(&mut self, alloc: Global, params: &[Text], count: usize) -> Result<(), NoMemory>
+        ensures { OnOk result (store_of self.new ≡ called params.now count (store_of self.old)) }
+    {
+        self.held.enter(alloc, params, count)?;
+        Ok(())
+    }
+
+    /// Leaves a function: the locals of its caller are as they were.
+    pub fn leave(&mut self, alloc: Global)
+        ensures { store_of self.new ≡ left (store_of self.old) }
+    {
+        self.held.leave(alloc);
+    }
+
+    /// Stores a value under a name in a table; the newest so many values have to be both.
+    pub fn puts_member(
+        &mut self,
+        alloc: Global,
+        count: usize,
+        name: &[u8],
+        line: usize,
+    ) -> Result<(), LuaError>
+        ensures { Answers result (store_of self.new) (with_ended (ended (put_member line name.now (parts count (store_of self.old)) (state_of self.old))) (without count (store_of self.old))) }
+    {
+        self.held.puts_member(alloc, count, name, line)
     }
 }

@@ -1,9 +1,9 @@
 //! Values that go into tables.
-ghost use Rattle.std.specs.Prelude.{◌≡◌, ◌<◌, ◌^◌, [], ◌∷◌, map, pos, OnOk};
+ghost use Rattle.std.specs.Prelude.{◌≡◌, ◌<◌, ◌^◌, [], ◌∷◌, get_or, length, map, pos, OnOk};
 ghost use Rattle.std.specs.List.{All};
 ghost use Rattle.lua_machine.specs.Value.{Number, Text};
 ghost use Rattle.lua_machine.specs.State.{State};
-ghost use Rattle.lua_machine.specs.Yields.{put};
+ghost use Rattle.lua_machine.specs.Yields.{put, put_member};
 ghost use Rattle.lua_store.specs.Rows.{AreHeld, tables_of};
 ghost use Rattle.lua_store.specs.Values.{AreApart, IsHeld, IsHeldKey, Texts, meant, meant_key};
 ghost use Rattle.lua_state.specs.Held.{IsSound, state_of, store_of};
@@ -45,6 +45,22 @@ fn put_of_parts(tables: &mut LuaTables, line: usize, values: &[SmallValue]) -> R
 {
     match values {
         [table, key, value] => put_value(tables, line, *table, *key, *value),
+        _ => Err(LuaError::TypeFault { line }),
+    }
+}
+
+// Puts a value at a member of a table, whose name is at a place among the texts.
+fn put_member_of_parts(
+    tables: &mut LuaTables,
+    line: usize,
+    name: usize,
+    values: &[SmallValue],
+) -> Result<(), LuaError>
+    ensures put { (texts : Texts) (state : State) → AreApart texts → All (IsHeld texts) values.now → name < length texts → state.tables ≡ tables_of texts tables.old → Answers result (record state { tables = tables_of texts tables.new }) (ended (put_member line (get_or texts name []) (map (meant texts) values.now) state)) }
+    ensures held { (texts : Texts) → All (AreHeld texts) tables.old → All (IsHeld texts) values.now → name < length texts → All (AreHeld texts) tables.new }
+{
+    match values {
+        [table, value] => put_value(tables, line, *table, SmallValue::Text(name), *value),
         _ => Err(LuaError::TypeFault { line }),
     }
 }
@@ -116,5 +132,38 @@ impl HeldState {
             }
             Err(why) => Err(why),
         }
+    }
+
+    // The same of a member, whose name is at a place among the texts.
+    fn puts_at(&mut self, count: usize, name: usize, line: usize) -> Result<(), LuaError>
+        requires sound { IsSound self.old }
+        requires inside { name < length self.old.texts }
+        ensures put { Answers result (store_of self.new) (with_ended (ended (put_member line (get_or self.old.texts name []) (parts count (store_of self.old)) (state_of self.old))) (without count (store_of self.old))) }
+        ensures sound { IsSound self.new }
+    {
+        let values = self.values.top(count);
+        match put_member_of_parts(&mut self.tables, line, name, values) {
+            Ok(()) => {
+                self.values.drop_top(count);
+                Ok(())
+            }
+            Err(why) => Err(why),
+        }
+    }
+
+    /// Puts the newest value at a member of the table before it.
+    pub(crate) fn puts_member(
+        &mut self,
+        alloc: Global,
+        count: usize,
+        name: &[u8],
+        line: usize,
+    ) -> Result<(), LuaError>
+        requires { IsSound self.old }
+        ensures put { Answers result (store_of self.new) (with_ended (ended (put_member line name.now (parts count (store_of self.old)) (state_of self.old))) (without count (store_of self.old))) }
+        ensures sound { IsSound self.new }
+    {
+        let at = self.hold(alloc, name)?;
+        self.puts_at(count, at, line)
     }
 }
