@@ -81,11 +81,11 @@ is_less line (Number a) (Number b) = Ok (int_lt a b)
 is_less line (Text a) (Text b) = Ok (is_before a b)
 is_less line _ _ = Err (TypeFault line)
 
-abbrev truth : Result Bool Fault → Answer
+abbrev pub truth : Result Bool Fault → Answer
 truth (Ok b) = Ok (Truth b)
 truth (Err fault) = Err fault
 
-abbrev untruth : Result Bool Fault → Answer
+abbrev pub untruth : Result Bool Fault → Answer
 untruth (Ok b) = Ok (Truth (not b))
 untruth (Err fault) = Err fault
 
@@ -98,7 +98,7 @@ arithmetic binary.Over line a b = quotient line a b
 arithmetic binary.Mod line a b = remainder line a b
 arithmetic _ line a b = Err (TypeFault line)
 
-abbrev on_numbers : BinaryOp → ℕ → LuaValue → LuaValue → Answer
+abbrev pub on_numbers : BinaryOp → ℕ → LuaValue → LuaValue → Answer
 on_numbers op line (Number a) (Number b) = arithmetic op line a b
 on_numbers op line _ _ = Err (TypeFault line)
 

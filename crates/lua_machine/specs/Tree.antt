@@ -1,14 +1,18 @@
 -- The tree of a chunk as plain data, over which its meaning is told: a box is what is in it, and a list is a type of its own.
-use Rattle.std.specs.Prelude.{ℕ, ℤ, List, [], ◌∷◌, Option, Some, None}
+use Rattle.std.specs.Prelude.{ℕ, ℤ, pos, neg_ℤ, List, [], ◌∷◌, map, Option, Some, None}
+use Rattle.std.specs.Int.{int_min, int_max}
+use Rattle.std.specs.Option.{option_map}
 use Rattle.lua_tree.specs.declared.tree.UnaryOp.{UnaryOp}
 use Rattle.lua_tree.specs.declared.tree.BinaryOp.{BinaryOp}
-use Rattle.lua_tree.specs.declared.tree.Expr.{Expr, Row_of-Expr, end_of-Expr, more_of-Expr, Row_of-Entry, end_of-Entry, more_of-Entry}
-use Rattle.lua_tree.specs.declared.tree.Expr as e
+use Rattle.lua_tree.specs.declared.tree.Expr.{Expr}
 use Rattle.lua_tree.specs.declared.tree.Entry.{Entry}
-use Rattle.lua_tree.specs.declared.tree.Entry as entry_of
-use Rattle.lua_tree.specs.declared.tree.LuaStatement.{LuaStatement, Row_of-LuaStatement, end_of-LuaStatement, more_of-LuaStatement, Row_of-Arm, end_of-Arm, more_of-Arm, Held-LuaStatement-If-1, None', Some'}
-use Rattle.lua_tree.specs.declared.tree.LuaStatement as s
-use Rattle.lua_tree.specs.declared.tree.LuaBlock.{out-LuaBlock}
+use Rattle.lua_tree.specs.declared.tree.Entry.TheOpen as e
+use Rattle.lua_tree.specs.declared.tree.Entry.TheFolds as expression
+use Rattle.lua_tree.specs.declared.tree.LuaStatement.{LuaStatement}
+use Rattle.lua_tree.specs.declared.tree.LuaBlock.{LuaBlock}
+use Rattle.lua_tree.specs.declared.tree.Arm.{Arm}
+use Rattle.lua_tree.specs.declared.tree.LuaStatement.TheOpen as s
+use Rattle.lua_tree.specs.declared.tree.LuaStatement.TheFolds as block
 use Rattle.lua_tree.specs.declared.tree.Item.{Item}
 use Rattle.lua_tree.specs.declared.tree.Item.TheVariants as item
 
@@ -64,76 +68,98 @@ mutual
     else_do : (body : BlockNode) → ArmNodes
     arm : (test : Node) → (body : BlockNode) → (others : ArmNodes) → ArmNodes
 
--- what is in a box
-abbrev only : Nodes → Node
-only none = Nil
-only (first and others) = first
+-- ---- the tree in memory, one level at a time, where what a level holds is seen already
 
-abbrev mutual
-  pub node_of : Expr → Node
-  node_of e.Nil = Nil
-  node_of e.True = True
-  node_of e.False = False
-  node_of (e.Number value) = Number value
-  node_of (e.Str bytes line) = Str bytes line
-  node_of (e.Name called) = Name called
-  node_of (e.Index' p table q key line) = Index (only (nodes_of table)) (only (nodes_of key)) line
-  node_of (e.Member' p table called line) = Member (only (nodes_of table)) called line
-  node_of (e.Call' called shape args line) = Call called (nodes_of args) line
-  node_of (e.MathCall' called shape args line) = MathCall called (nodes_of args) line
-  node_of (e.TableCall' called shape args line) = TableCall called (nodes_of args) line
-  node_of (e.Construct' shape entries) = Construct (entries_of entries)
-  node_of (e.Unary' op p of line) = Unary op (only (nodes_of of)) line
-  node_of (e.Binary' op p left q right line) = Binary op (only (nodes_of left)) (only (nodes_of right)) line
+-- expressions one after the other
+abbrev pub nodes : List Node → Nodes
+nodes [] = none
+nodes (first ∷ others) = first and nodes others
 
-  pub nodes_of : {m : _} → Row_of-Expr m → Nodes
-  nodes_of end_of-Expr = none
-  nodes_of (more_of-Expr first rest) = node_of first and nodes_of rest
+abbrev pub entry_nodes : List EntryNode → EntryNodes
+entry_nodes [] = no_entries
+entry_nodes (first ∷ others) = entry first (entry_nodes others)
 
-  pub entry_node_of : Entry → EntryNode
-  entry_node_of (entry_of.Value of) = Value (node_of of)
-  entry_node_of (entry_of.Named called of) = Named called (node_of of)
-  entry_node_of (entry_of.Keyed key of line) = Keyed (node_of key) (node_of of) line
+-- a numeral; one past 2^53 either way, which no text has, is the number at that end
+abbrev pub numeral : ℤ → ℤ
+numeral value = int_max (neg_ℤ (pos 9007199254740992)) (int_min (pos 9007199254740992) value)
 
-  pub entries_of : {m : _} → Row_of-Entry m → EntryNodes
-  entries_of end_of-Entry = no_entries
-  entries_of (more_of-Entry first rest) = entry (entry_node_of first) (entries_of rest)
+abbrev pub expression_level : e.Expr-F EntryNode Node → Node
+expression_level e.Nil = Nil
+expression_level e.True = True
+expression_level e.False = False
+expression_level (e.Number value) = Number (numeral value)
+expression_level (e.Str bytes line) = Str bytes line
+expression_level (e.Name called) = Name called
+expression_level (e.Index table key line) = Index table key line
+expression_level (e.Member table called line) = Member table called line
+expression_level (e.Call called args line) = Call called (nodes args) line
+expression_level (e.MathCall called args line) = MathCall called (nodes args) line
+expression_level (e.TableCall called args line) = TableCall called (nodes args) line
+expression_level (e.Construct entries) = Construct (entry_nodes entries)
+expression_level (e.Unary op of line) = Unary op of line
+expression_level (e.Binary op left right line) = Binary op left right line
 
-abbrev pub option_node : Option Expr → Option Node
-option_node None = None
-option_node (Some of) = Some (node_of of)
+abbrev pub entry_level : e.Entry-F EntryNode Node → EntryNode
+entry_level (e.Value of) = Value of
+entry_level (e.Named called of) = Named called of
+entry_level (e.Keyed key of line) = Keyed key of line
 
-abbrev mutual
-  pub statement_of : LuaStatement → StatementNode
-  statement_of (s.Local called of) = Local called (option_node of)
-  statement_of (s.Assign called of) = Assign called (node_of of)
-  statement_of (s.SetIndex table key of line) = SetIndex (node_of table) (node_of key) (node_of of) line
-  statement_of (s.SetMember table called of line) = SetMember (node_of table) called (node_of of) line
-  statement_of (s.Call call) = CallAlone (node_of call)
-  statement_of (s.If' shape arms otherwise) = If (arms_of arms (otherwise_of otherwise))
-  statement_of (s.While' test shape body) = While (node_of test) (statements_of body)
-  statement_of (s.Repeat' shape body test) = Repeat (statements_of body) (node_of test)
-  statement_of (s.For' called first last by shape body line) = For called (node_of first) (node_of last) (option_node by) (statements_of body) line
-  statement_of (s.Do' shape body) = Do (statements_of body)
-  statement_of s.Break = Break
-  statement_of (s.Return of) = Return (option_node of)
+-- an expression
+abbrev pub node_of : Expr → Node
+node_of = expression.fold-Expr EntryNode Node entry_level expression_level
 
-  pub statements_of : {m : _} → Row_of-LuaStatement m → BlockNode
-  statements_of end_of-LuaStatement = finished
-  statements_of (more_of-LuaStatement first rest) = statement_of first andthen statements_of rest
+-- an item of a constructor
+abbrev pub entry_node_of : Entry → EntryNode
+entry_node_of = expression.fold-Entry EntryNode Node entry_level expression_level
 
-  pub arms_of : {m : _} → Row_of-Arm m → ArmNodes → ArmNodes
-  arms_of end_of-Arm last = last
-  arms_of (more_of-Arm test shape body rest) last = arm (node_of test) (statements_of body) (arms_of rest last)
+-- a test with its block
+abbrev pub ArmNode : Type 0
+ArmNode = Node × BlockNode
 
-  pub otherwise_of : Held-LuaStatement-If-1 → ArmNodes
-  otherwise_of None' = no_else
-  otherwise_of (Some' shape body) = else_do (statements_of body)
+-- statements one after the other
+abbrev pub statements : List StatementNode → BlockNode
+statements [] = finished
+statements (first ∷ others) = first andthen statements others
 
--- the statements of a block
-abbrev pub block_of : List LuaStatement → BlockNode
-block_of [] = finished
-block_of (first ∷ others) = statement_of first andthen block_of others
+abbrev pub last_arm : Option BlockNode → ArmNodes
+last_arm None = no_else
+last_arm (Some body) = else_do body
+
+-- tests with their blocks, and the block of `else`
+abbrev pub arms : List ArmNode → Option BlockNode → ArmNodes
+arms [] otherwise = last_arm otherwise
+arms (first ∷ others) otherwise = arm first.0 first.1 (arms others otherwise)
+
+abbrev pub statement_level : s.LuaStatement-F StatementNode ArmNode BlockNode → StatementNode
+statement_level (s.Local called of) = Local called (option_map node_of of)
+statement_level (s.Assign called of) = Assign called (node_of of)
+statement_level (s.SetIndex table key of line) = SetIndex (node_of table) (node_of key) (node_of of) line
+statement_level (s.SetMember table called of line) = SetMember (node_of table) called (node_of of) line
+statement_level (s.Call call) = CallAlone (node_of call)
+statement_level (s.If tests otherwise) = If (arms tests otherwise)
+statement_level (s.While test body) = While (node_of test) body
+statement_level (s.Repeat body test) = Repeat body (node_of test)
+statement_level (s.For called first last by body line) = For called (node_of first) (node_of last) (option_map node_of by) body line
+statement_level (s.Do body) = Do body
+statement_level s.Break = Break
+statement_level (s.Return of) = Return (option_map node_of of)
+
+abbrev pub arm_level : s.Arm-F StatementNode ArmNode BlockNode → ArmNode
+arm_level a = (node_of a.test, a.body)
+
+abbrev pub block_level : s.LuaBlock-F StatementNode ArmNode BlockNode → BlockNode
+block_level b = statements b.statements
+
+-- a statement
+abbrev pub statement_of : LuaStatement → StatementNode
+statement_of = block.fold-LuaStatement StatementNode ArmNode BlockNode statement_level arm_level block_level
+
+abbrev pub arm_of : Arm → ArmNode
+arm_of = block.fold-Arm StatementNode ArmNode BlockNode statement_level arm_level block_level
+
+-- a block
+abbrev pub block_of : LuaBlock → BlockNode
+block_of = block.fold-LuaBlock StatementNode ArmNode BlockNode statement_level arm_level block_level
 
 -- what a chunk defines and assigns
 pub data ItemNode : Type 0 where
@@ -141,7 +167,7 @@ pub data ItemNode : Type 0 where
   Set : (called : List ℕ) → (of : Node) → ItemNode
 
 abbrev pub item_of : Item → ItemNode
-item_of (item.Function called params body) = Function called params (block_of (out-LuaBlock body).statements)
+item_of (item.Function called params body) = Function called params (block_of body)
 item_of (item.Assign called of) = Set called (node_of of)
 
 -- a chunk, as it is told of here

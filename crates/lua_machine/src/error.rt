@@ -1,6 +1,8 @@
 //! Why a call of a chunk's function gives no value.
+use std::alloc::AllocError;
 use std::error::Error;
 use std::fmt;
+use tis_base::NoMemory;
 
 /// A fault, with the line that is named.
 #[derive(Clone, Copy, Debug, PartialEq, Eq)]
@@ -43,3 +45,25 @@ impl fmt::Display for LuaError {
 }
 
 impl Error for LuaError {}
+
+impl From<NoMemory> for LuaError {
+    ghost use Rattle.std.specs.Prelude.{◌≡◌};
+    ghost use Rattle.lua_machine.specs.declared.error.LuaError.TheVariants as e;
+
+    ghost from_gives = { λ _ given. given ≡ e.NoMemory };
+
+    fn from(_: NoMemory) -> Self {
+        LuaError::NoMemory
+    }
+}
+
+impl From<AllocError> for LuaError {
+    ghost use Rattle.std.specs.Prelude.{◌≡◌};
+    ghost use Rattle.lua_machine.specs.declared.error.LuaError.TheVariants as e;
+
+    ghost from_gives = { λ _ given. given ≡ e.NoMemory };
+
+    fn from(_: AllocError) -> Self {
+        LuaError::NoMemory
+    }
+}

@@ -65,7 +65,8 @@ impl Row {
     /// The greatest n such that the keys 1 to n are all there.
     // It looks each of them up. A list of the values at 1, 2, .. with a count of its holes would spare that.
     pub fn border(&self) -> u64
-        ensures { (texts : Texts) → result ≡ border (row_of texts self.now) }
+        ensures within { result < 2 ^ 63 }
+        ensures exact { (texts : Texts) → result ≡ border (row_of texts self.now) }
     {
         for n in 0..self.last {
             if is_missing(&self.values, n + 1) {

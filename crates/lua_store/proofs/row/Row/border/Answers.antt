@@ -8,8 +8,8 @@ use Rattle.lua_store.specs.Values.{Texts, meant}
 use Rattle.lua_store.proofs.Held.{run_ends, run_goes_on}
 use Rattle.lua_store.proofs.row.Row.border.Goals as goal
 
-pub returns-then-is_missing : goal.returns-then-is_missing
-returns-then-is_missing c = λ (texts : Texts).
+pub returns-then-is_missing-clause-exact : goal.returns-then-is_missing-clause-exact
+returns-then-is_missing-clause-exact c = λ (texts : Texts).
     let missing : is_nil (at_key (row_of texts c.args.self.now) (lua.Number (pos (c.loop-n.n + 1)))) ≡ true =
     ap (λ (cells : Cells). is_nil (meant texts (held_in cells.entries (Number (pos (c.loop-n.n + 1)))))) (sym c.self.view_is) ∙ sym (c.is_missing.ensures texts) ∙ c.if-is_missing.true in
     omega (arith, c.loop-n.invariant.1 texts, run_ends (c.args.self.now.last - c.loop-n.n) (row_of texts c.args.self.now) (c.loop-n.n + 1) missing)

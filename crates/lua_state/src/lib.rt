@@ -1,0 +1,35 @@
+//! What an evaluation of Lua stands on and changes.
+//!
+//! A [`LuaState`] has the variables, the tables and the random generator of an evaluation, and a stack of the values that wait
+//! beside the frames of a machine. Contracts see it as a `Store` of `specs/Store.antt`: values of `lua_machine`, and its
+//! `State`. Texts, rows and places stay inside, so that a machine above speaks of plain values alone. Each call says, by the
+//! functions of `lua_machine`, what it makes of the newest values: it takes them, the newest last, and puts what it gives.
+//!
+//! ```text
+//! let mut state = LuaState::new(alloc, seed)?;
+//! state.push_variable(alloc, b"a")?;
+//! state.push_number(two)?;
+//! state.binary(alloc, 2, BinaryOp::Times, line)?;      // a * 2, or the fault with its line
+//! state.assign(alloc, b"a")?;
+//! ```
+//!
+//! A name is looked up by a hash of its bytes, and then among the variables from the innermost on, so a look-up takes time with the
+//! number of variables in scope. A new text takes memory, and so does a value that is put, now and then; no call copies a table
+//! or a list of variables.
+//!
+//! What is still missing: the bounds of loops, the libraries, and entries of a constructor with a key. Units are for the caller.
+#![tactic(auto)]
+
+mod bounds;
+mod calls;
+mod held;
+mod making;
+mod names;
+mod operators;
+mod stack;
+mod starting;
+mod state;
+mod storing;
+mod variables;
+
+pub use state::LuaState;
