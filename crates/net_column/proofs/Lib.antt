@@ -13,4 +13,4 @@ pub mod Emitted
 mod Fuel
 pub mod Forms
 pub mod Placing
-pub mod SmallNets
+mod SmallNets

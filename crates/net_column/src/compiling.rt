@@ -16,8 +16,9 @@ ghost use Rattle.net_column.specs.Form.{HasForm, KeepsForm};
 use crate::emitting::emit;
 use crate::error::FormError;
 use crate::form::is_column;
+use crate::laws::read_networks_are_small;
 use net_rules::check;
-use net_syntax::{Net, read_net, read_networks_are_derived, write_net};
+use net_syntax::{Net, read_net, write_net};
 use std::alloc::Global;
 use tis_asm::Programs;
 use tis_base::NoMemory;
@@ -54,8 +55,7 @@ pub fn compile(alloc: Global, text: &[u8]) -> Result<Programs, FormError>
     ensures refused { result ≡ Err FormError.NotThisForm → (net : SomeNet) → HasForm text.now net → ⊥ }
 {
     let net = read_net(alloc, text)?;
-    // By its grammar the network has no more parts than its text may have lines.
-    read_networks_are_derived();
+    read_networks_are_small();
     if !is_canonical(alloc, text, &net)? {
         return Err(FormError::NotThisForm);
     }

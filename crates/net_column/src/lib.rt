@@ -40,4 +40,4 @@ pub use compiling::compile;
 pub use emitting::emit;
 pub use error::FormError;
 pub use form::is_column;
-pub use laws::{nets_are_one, steps_are_bounded};
+pub use laws::{nets_are_one, read_networks_are_small, steps_are_bounded};

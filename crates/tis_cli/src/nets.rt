@@ -11,9 +11,10 @@ ghost use Rattle.tis_cli.specs.Nets.{stream_line, stream_lines, over_rules, net_
 
 use crate::runs::Run;
 use crate::status::Status;
+use net_column::read_networks_are_small;
 use net_kahn::{KahnStreams, streams};
 use net_rules::check;
-use net_syntax::{read_net, read_networks_are_derived};
+use net_syntax::read_net;
 use net_tree::Net;
 use std::alloc::Global;
 use tis_base::NoMemory;
@@ -72,8 +73,7 @@ pub(crate) fn net(alloc: Global, text: &[u8], grid: &[u8]) -> Result<Run, Status
     ensures { Ends result (net_answer text.now grid.now) }
 {
     let net = read_net(alloc, text)?;
-    // By its grammar the network has no more parts than its text may have lines.
-    read_networks_are_derived();
+    read_networks_are_small();
     let puzzle = read_grid(alloc, grid)?;
     run_net(alloc, &net, &puzzle)
 }

@@ -8,7 +8,6 @@ use Rattle.tis_cli.specs.Ends.{Ends}
 use Rattle.tis_cli.specs.Nets.{over_net, over_rules, net_answer}
 use Rattle.tis_cli.specs.Statuses.{net_status, grid_status}
 use Rattle.tis_cli.proofs.Networks.{net_stops, grid_stops}
-use Rattle.net_column.proofs.SmallNets.{nets_are_small}
 use Rattle.tis_cli.proofs.nets.net.Goals as goal
 
 pub returns-in_err-net : goal.returns-in_err-net
@@ -25,7 +24,7 @@ returns-in_err-puzzle c =
     rw status (grid_stops c.in_err-puzzle.field-0.0 (text.grid_of c.args.grid.now) (over_rules (net_view c.in_ok-net.net)) (net_answer c.args.text.now c.args.grid.now) read c.in_err-puzzle.ensures.grid)
 
 pub run_net-requires : goal.run_net-requires
-run_net-requires c = nets_are_small c.args.text.now (net_view c.in_ok-net.net) (c.read_networks_are_derived.ensures c.args.text.now (net_view c.in_ok-net.net) c.in_ok-net.ensures)
+run_net-requires c = c.read_networks_are_small.ensures c.args.text.now (net_view c.in_ok-net.net) c.in_ok-net.ensures
 
 pub returns : goal.returns
 unfolding net_answer
