@@ -53,8 +53,4 @@ pub use status::{Refusal, Status};
 #[cfg(test)]
 mod grade_tests;
 #[cfg(test)]
-mod net_tests;
-#[cfg(test)]
 mod run_tests;
-#[cfg(test)]
-mod tests;

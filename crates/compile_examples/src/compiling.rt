@@ -1,7 +1,7 @@
-use crate::{Refusal, Status, describe, tool};
 use std::alloc::{AllocError, Global};
 use std::test::Fail;
 use tis_base::{MemSink, MemStore, NoMemory, Sink, Store, Value, Values};
+use tis_cli::{Refusal, Status, describe, tool};
 
 // A network that passes the values of a column on.
 const PLAIN_NET: &[u8] =

@@ -1,7 +1,7 @@
-use crate::{describe, tool};
 use std::alloc::Global;
 use std::test::Fail;
 use tis_base::{MemSink, MemStore, NoMemory};
+use tis_cli::{describe, tool};
 
 // The first two lines of each network here.
 const HEAD: &[u8] = b"net 1\ntiles CCCC CCCC CCCC\n";
