@@ -1,5 +1,5 @@
 -- The tree of a chunk as plain data, over which its meaning is told: a box is what is in it, and a list is a type of its own.
-use Rattle.std.specs.Prelude.{ℕ, ℤ, pos, neg_ℤ, List, [], ◌∷◌, map, Option, Some, None}
+use Rattle.std.specs.Prelude.{ℕ, ℤ, pos, neg_ℤ, List, [], ◌∷◌, Option, Some, None}
 use Rattle.std.specs.Int.{int_min, int_max}
 use Rattle.std.specs.Option.{option_map}
 use Rattle.lua_tree.specs.declared.tree.UnaryOp.{UnaryOp}

@@ -3,8 +3,6 @@ use Rattle.std.proofs.Common.{◌≡◌, ℕ, Bool, true, false, cond, List, [],
 use Rattle.std.proofs.lemmas.List.{take-map, drop-map, map-append}
 use Rattle.lua_machine.specs.Value.{LuaValue, Nil, Truth, Number, Text, Table, Fault, TypeFault, is_key}
 use Rattle.lua_machine.specs.Tables.{at_key, row}
-use Rattle.lua_tree.specs.declared.tree.BinaryOp.TheVariants as binary
-use Rattle.lua_state.specs.Operations.{is_join}
 use Rattle.lua_machine.specs.State.{State, Done, gives, fails}
 use Rattle.lua_machine.specs.declared.error.LuaError.{LuaError}
 use Rattle.lua_machine.specs.declared.error.LuaError.TheVariants as e
@@ -113,11 +111,6 @@ indexed_state line (a ∷ b ∷ c ∷ values) state = by a
     by (Number n) = refl
     by (Text bytes) = refl
     by (Table at) = refl
-
--- `..` is the one operator that joins
-pub join_alone : (op : BinaryOp) → is_join op ≡ true → op ≡ binary.Join
-join_alone binary.Join e = refl
-join_alone _ e = cc
 
 -- what holds of what the newest values stand for holds of the parts
 pub at_parts : (P : List LuaValue → Type 0) (h : HeldState) (count : ℕ) (values : List SmallValue) → values ≡ reverse (take count h.values) → P (map (meant h.texts) values) → P (parts count (store_of h))
