@@ -49,8 +49,3 @@ pub use describing::describe;
 pub use laws::answers_are_one;
 pub use run::tool;
 pub use status::{Refusal, Status};
-
-#[cfg(test)]
-mod grade_tests;
-#[cfg(test)]
-mod run_tests;

@@ -1,7 +1,7 @@
-use crate::{Status, tool};
 use std::alloc::Global;
 use std::test::Fail;
 use tis_base::{MemSink, MemStore, NoMemory};
+use tis_cli::{Status, tool};
 use tis_grade::Verdict;
 
 // A save that passes the values of a column on.

@@ -1,8 +1,8 @@
-use crate::{Refusal, Status, describe, tool};
 use std::alloc::Global;
 use std::test::Fail;
 use tis_asm::AsmError;
 use tis_base::{MemSink, MemStore, NoMemory, Sink, Value, Values};
+use tis_cli::{Refusal, Status, describe, tool};
 use tis_grid_text::GridTextError;
 use tis_save::SaveError;
 
