@@ -1,3 +1,4 @@
 pub mod Finding
 pub mod Several
 pub mod Numerals
+pub mod Backs

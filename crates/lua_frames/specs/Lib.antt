@@ -1,3 +1,4 @@
+pub mod Ways
 pub mod Quotients
 pub mod Units
 pub mod Parts
