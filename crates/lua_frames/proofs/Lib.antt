@@ -1,4 +1,3 @@
 pub mod Finding
 pub mod Several
 pub mod Numerals
-pub mod Backs

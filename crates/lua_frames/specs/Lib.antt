@@ -1,4 +1,3 @@
-pub mod Ways
 pub mod Quotients
 pub mod Units
 pub mod Parts

@@ -16,9 +16,7 @@
 //! the bounds of a loop wait beside it in the state. To begin a node takes memory for a frame at most, and for what `lua_state` takes;
 //! a function is looked up by a walk over the items of the chunk.
 //!
-//! What is still missing is the other half of a turn. What most frames do with what comes back to them is there, a function each
-//! with the definition's clause (`resuming.rt`, `ways.rt`, `storing.rt`, `making.rt`), and nothing calls these so far: loops, the libraries
-//! and entries with a key are missing, and the call that finds the function of a frame.
+//! What is still missing is the other half of a turn: what a frame does with what comes back to it.
 #![tactic(auto)]
 
 mod beginning;
@@ -29,14 +27,10 @@ mod expressions;
 mod frame;
 mod functions;
 mod machine;
-mod making;
 mod parts;
 mod quotient;
-mod resuming;
 mod statements;
-mod storing;
 mod units;
-mod ways;
 
 pub use control::Control;
 pub use frame::{Frame, Making};
@@ -44,4 +38,3 @@ pub use functions::{Function, MathFunction, TableFunction};
 pub use machine::Machine;
 pub use parts::Parts;
 pub use units::Units;
-pub use ways::Way;
