@@ -1,7 +1,6 @@
 -- What the calls answer.
 use Rattle.std.specs.Prelude.{◌≡◌, ℕ, ℤ, List, Option, option_map, Result, Ok, Err}
 use Rattle.tis_base.specs.Tiles.{Tiles}
-use Rattle.tis_base.specs.declared.memory.NoMemory.{NoMemory}
 use Rattle.tis_base.specs.declared.tiles.TileKind.{TileKind}
 use Rattle.tis_base.specs.declared.values.Values.{Values}
 use Rattle.tis_grid.specs.Puzzle.{Puzzle, puzzle_of, bare}
@@ -22,15 +21,14 @@ abbrev pub AnswersPorts : Result held.Puzzle PuzzleError → Result Puzzle Refus
 AnswersPorts (Ok made) ports = ports ≡ Ok (puzzle_of made)
 AnswersPorts (Err error) ports = RefusesEntry error ports
 
--- an entry adds its port to the puzzle, or it is refused
-abbrev pub AddsEntry : held.Puzzle → Result (Unit {0}) PuzzleError → held.Puzzle → Result Puzzle Refusal → Type 0
-AddsEntry old (Ok done) new wanted = wanted ≡ Ok (puzzle_of new)
-AddsEntry old (Err error) new wanted = RefusesEntry error wanted
+-- an entry adds its port, so that this is the puzzle, or it is refused
+abbrev pub AddsEntry : Result (Unit {0}) PuzzleError → held.Puzzle → Result Puzzle Refusal → Type 0
+AddsEntry (Ok done) new wanted = wanted ≡ Ok (puzzle_of new)
+AddsEntry (Err error) new wanted = RefusesEntry error wanted
 
--- a call gives these numbers where there are any, unless memory ran out
-abbrev pub GivesSome : Result (Option Values) NoMemory → Option (List ℤ) → Type 0
-GivesSome (Ok made) numbers = option_map (λ (v : Values). v.items) made ≡ numbers
-GivesSome (Err e) numbers = Unit {0}
+-- the values of a list, where it is there
+abbrev pub values_there : Option Values → Option (List ℤ)
+values_there values = option_map (λ (v : Values). v.items) values
 
 -- the tiles of these kinds, or the number of the first other value
 abbrev pub AnswersTiles : Result Tiles ℕ → Result (List TileKind) ℕ → Type 0

@@ -1,8 +1,9 @@
 //! The ports of a specification.
-ghost use Rattle.std.specs.Prelude.{◌≡◌, map, option_map, option_and_then, IfOk};
+ghost use Rattle.std.specs.Prelude.{◌≡◌, map, option_and_then, IfOk};
+ghost use Rattle.tis_base.specs.Answers.{Gives};
 ghost use Rattle.lua_plain.specs.Plain.{plain_view};
 ghost use Rattle.tis_grid.specs.Puzzle.{IsPuzzle, puzzle_of, is_picture, input_at, output_at};
-ghost use Rattle.tis_puzzle.specs.Answering.{AddsEntry, AnswersPorts, GivesSome};
+ghost use Rattle.tis_puzzle.specs.Answering.{AddsEntry, AnswersPorts, values_there};
 ghost use Rattle.tis_puzzle.specs.Entries.{column_in, column_of, is_short, value_in, values_of, values_in, only_if, port_of, port_with, ports_of, unknown, with_entry};
 
 use crate::error::PuzzleError;
@@ -23,7 +24,7 @@ fn value(plain: &Plain) -> Option<Value>
 
 // The values of a list, where all of them are values of the machine.
 fn values(alloc: Global, list: &[Plain]) -> Result<Option<Values>, NoMemory>
-    ensures { GivesSome result (values_of (map plain_view list.now)) }
+    ensures { Gives values_there result (values_of (map plain_view list.now)) }
 {
     let mut values = Values::new(alloc);
     'list: for plain in list {
@@ -36,7 +37,7 @@ fn values(alloc: Global, list: &[Plain]) -> Result<Option<Values>, NoMemory>
 }
 
 fn values_in(alloc: Global, plain: &Plain) -> Result<Option<Values>, NoMemory>
-    ensures { GivesSome result (values_in (plain_view plain.now)) }
+    ensures { Gives values_there result (values_in (plain_view plain.now)) }
 {
     match plain.as_list() {
         Some(list) => values(alloc, list.as_slice()),
@@ -63,7 +64,7 @@ fn column(plain: &Plain) -> Option<u8>
 
 // The values, where a stream may hold them.
 fn only_short(values: Option<Values>) -> Option<Values>
-    ensures { option_map (λ v. v.items) result ≡ option_and_then (only_if is_short) (option_map (λ v. v.items) values) }
+    ensures { values_there result ≡ option_and_then (only_if is_short) (values_there values) }
 {
     let values = values?;
     if values.len() <= MOST_VALUES {
@@ -75,7 +76,7 @@ fn only_short(values: Option<Values>) -> Option<Values>
 
 // The values, where they are a picture.
 fn only_pictures(values: Option<Values>) -> Option<Values>
-    ensures { option_map (λ v. v.items) result ≡ option_and_then (only_if is_picture) (option_map (λ v. v.items) values) }
+    ensures { values_there result ≡ option_and_then (only_if is_picture) (values_there values) }
 {
     let values = values?;
     if is_picture(&values) {
@@ -92,7 +93,7 @@ fn add_input(
     column: Option<u8>,
     values: Option<Values>,
 ) -> Result<(), PuzzleError>
-    ensures { AddsEntry puzzle.old result puzzle.new (with_entry (puzzle_of puzzle.old) index (input_at column (option_map (λ v. v.items) values))) }
+    ensures { AddsEntry result puzzle.new (with_entry (puzzle_of puzzle.old) index (input_at column (values_there values))) }
 {
     let Some(position) = column else {
         return Err(PuzzleError::BadStreams { index });
@@ -115,7 +116,7 @@ fn add_output(
     column: Option<u8>,
     expected: Option<Values>,
 ) -> Result<(), PuzzleError>
-    ensures { AddsEntry puzzle.old result puzzle.new (with_entry (puzzle_of puzzle.old) index (output_at kind column (option_map (λ v. v.items) expected))) }
+    ensures { AddsEntry result puzzle.new (with_entry (puzzle_of puzzle.old) index (output_at kind column (values_there expected))) }
 {
     let Some(position) = column else {
         return Err(PuzzleError::BadStreams { index });
@@ -142,7 +143,7 @@ fn add_port(
     column: Option<u8>,
     values: Option<Values>,
 ) -> Result<(), PuzzleError>
-    ensures { AddsEntry puzzle.old result puzzle.new (with_entry (puzzle_of puzzle.old) index (port_with kind column (option_map (λ v. v.items) values))) }
+    ensures { AddsEntry result puzzle.new (with_entry (puzzle_of puzzle.old) index (port_with kind column (values_there values))) }
 {
     match kind {
         0 => add_input(puzzle, index, column, only_short(values)),
@@ -159,7 +160,7 @@ fn add_entry(
     index: usize,
     entry: &Plain,
 ) -> Result<(), PuzzleError>
-    ensures { AddsEntry puzzle.old result puzzle.new (with_entry (puzzle_of puzzle.old) index (port_of (plain_view entry.now))) }
+    ensures { AddsEntry result puzzle.new (with_entry (puzzle_of puzzle.old) index (port_of (plain_view entry.now))) }
 {
     let Some(list) = entry.as_list() else {
         return Err(PuzzleError::BadStreams { index });
