@@ -6,8 +6,9 @@ ghost use Rattle.tis_clock.specs.Cycle.{reads_or_steps, gives_out, state_after, 
 ghost use Rattle.tis_clock.specs.Runs.{EndsAs, LowersBy, IsAfterSome};
 ghost use Rattle.tis_clock.specs.Turns.{kept_at, acts, HasRoomForOne};
 
+use crate::acting::act;
 use crate::trace::Trace;
-use crate::turns::{COUNT, TILES, act, any_was_writing, give_out, read_or_step, writers};
+use crate::turns::{COUNT, TILES, any_was_writing, give_out, read_or_step, writers};
 use tis_base::{NoMemory, Tile};
 use tis_grid::{Ended, Event, Grid, State};
 

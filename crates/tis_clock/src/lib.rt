@@ -35,6 +35,7 @@
 //! It knows nothing of the cycle counts of the game: the clock is this project's own.
 #![tactic(auto)]
 
+mod acting;
 mod cycles;
 mod laws;
 mod trace;

@@ -1,17 +1,17 @@
 //! What a tile does at its turn in a cycle.
-ghost use Rattle.std.specs.Prelude.{◌≡◌, ◌<◌, ◌∷◌, [], length, flat_map, IfSome, IsTrue, Some, None, false, ◌&&◌};
+ghost use Rattle.std.specs.Prelude.{◌≡◌, ◌<◌, ◌∷◌, [], length, flat_map, IsTrue, Some, None, false, ◌&&◌};
 ghost use Rattle.tis_base.specs.declared.tiles.Dir.{Dir as AnyDir};
 ghost use Rattle.tis_base.specs.declared.tiles.Dir.TheVariants.{Down};
 ghost use Rattle.std.specs.List.{find, list_any};
 ghost use Rattle.tis_grid.specs.Orders.{Fits};
 ghost use Rattle.tis_node.specs.Intents.{takes_from};
 ghost use Rattle.tis_grid.specs.declared.event.Event.TheVariants as event;
-ghost use Rattle.tis_grid.specs.Events.{IsEnabled, is_enabled, is_giving, is_waiting, next_tile, after_event};
-ghost use Rattle.tis_grid.specs.HeldState.{HasRoom, spares_after};
+ghost use Rattle.tis_grid.specs.Events.{is_enabled, is_giving, is_waiting, next_tile};
 ghost use Rattle.tis_clock.specs.Cycle.{state_after};
 ghost use Rattle.tis_clock.specs.Cycle as cycle;
-ghost use Rattle.tis_clock.specs.Turns.{kept_at, acts, room_behind, Keeps};
+ghost use Rattle.tis_clock.specs.Turns.{kept_at, acts, Keeps};
 
+use crate::acting::act;
 use tis_base::{Dir, Tile};
 use tis_grid::{Event, Grid, State};
 use tis_node::Intent;
@@ -190,34 +190,6 @@ fn take(
         Intent::Local => None,
         Intent::Gives(_) => None,
         Intent::GivesAny => None,
-    }
-}
-
-// Applies an event. It stands out of line, so that what is done for each tile is short.
-#[inline(never)]
-fn happen(grid: &Grid, state: &mut State, event: Event)
-    requires fits { Fits grid.now state.old.state }
-    requires enabled { IsEnabled grid.now state.old.state event }
-    requires room { HasRoom state.old.spares event }
-    ensures state { state.new.state ≡ after_event grid.now state.old.state event }
-    ensures spares { state.new.spares ≡ spares_after state.old.spares event }
-    ensures fits { Fits grid.now state.new.state }
-{
-    grid.apply(state, event);
-}
-
-// Applies what a tile chose, where it chose anything.
-#[inline(always)]
-pub(crate) fn act(grid: &Grid, state: &mut State, chosen: Option<Event>)
-    requires fits { Fits grid.now state.old.state }
-    requires enabled { IfSome chosen (λ event. IsEnabled grid.now state.old.state event) }
-    requires room { IfSome chosen (λ event. HasRoom state.old.spares event) }
-    ensures state { state.new.state ≡ state_after grid.now state.old.state (acts chosen) }
-    ensures spares { state.new.spares ≡ room_behind state.old.spares chosen }
-    ensures fits { Fits grid.now state.new.state }
-{
-    if let Some(event) = chosen {
-        happen(grid, state, event);
     }
 }
 

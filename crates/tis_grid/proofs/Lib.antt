@@ -25,3 +25,4 @@ mod Intended
 pub mod Returning
 pub mod PuzzlePorts
 pub mod Holding
+mod Writing

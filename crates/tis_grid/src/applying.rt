@@ -122,9 +122,7 @@ impl Grid {
         requires wants { IsTrue (table.wants (program_of self.now tile.number) (at.node_at state.old.state tile.number) dir) }
         ensures { state.new ≡ record state.old { state = took self.now state.old.state tile.number dir value } }
     {
-        let mut node = state.node(tile);
-        node.take(self.program(tile), dir, value);
-        state.set_node(tile, node);
+        state.take(tile, self.program(tile), dir, value);
     }
 
     // A tile gives its value to a port.
@@ -136,9 +134,7 @@ impl Grid {
         requires offers { IsSome (table.offers (at.node_at state.old.state tile.number) dir) }
         ensures { state.new ≡ record state.old { state = given self.now state.old.state tile.number dir } }
     {
-        let mut node = state.node(tile);
-        node.gave(self.program(tile), dir);
-        state.set_node(tile, node);
+        state.gave(tile, self.program(tile), dir);
     }
 
     // A tile does an instruction without a port.
@@ -148,9 +144,7 @@ impl Grid {
         requires enabled { IsEnabled self.now state.old.state (events.Local tile) }
         ensures { state.new ≡ record state.old { state = after_event self.now state.old.state (events.Local tile) } }
     {
-        let mut node = state.node(tile);
-        node.local(self.program(tile));
-        state.set_node(tile, node);
+        state.advance(tile, self.decoded(tile));
     }
 
     // A tile gives to the next one, which takes.

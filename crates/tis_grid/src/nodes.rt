@@ -1,5 +1,5 @@
 //! The nodes of a state.
-ghost use Rattle.std.specs.Prelude.{◌≡◌, ◌<◌, IsTrue, get_or, is_some, length, map, slice_set};
+ghost use Rattle.std.specs.Prelude.{◌≡◌, ◌<◌, IsSome, IsTrue, get_or, is_some, length, map, slice_set};
 ghost use Rattle.tis_base.specs.declared.tiles.Dir.{Dir as AnyDir};
 ghost use Rattle.tis_asm.specs.Node as table;
 ghost use Rattle.tis_asm.specs.Programs.{IsSound};
@@ -10,7 +10,8 @@ ghost use Rattle.tis_grid.specs.HeldState as held;
 ghost use Rattle.tis_grid.specs.Events.{with_node};
 
 use crate::state::{State, TILES};
-use tis_base::Tile;
+use tis_asm::Program;
+use tis_base::{Dir, Tile, Value};
 use tis_node::{Decoded, Intent, Mode, Node};
 
 // Whether a node writes.
@@ -51,6 +52,30 @@ fn advance_at(nodes: &mut [Node], index: usize, decoded: &Decoded) -> Intent
     nodes[index].advance(decoded)
 }
 
+// One of the nodes takes a value from a port, where it stands.
+#[inline(always)]
+fn take_at(nodes: &mut [Node], index: usize, program: &Program, dir: Dir, value: Value)
+    requires within { index < length nodes.old }
+    requires sound { IsSound program.now }
+    requires fits { table.FitsProgram program.now (get_or (map node_view nodes.old) index table.fresh) }
+    requires wants { IsTrue (table.wants program.now (get_or (map node_view nodes.old) index table.fresh) dir) }
+    ensures { map node_view nodes.new ≡ slice_set (map node_view nodes.old) index (table.take_value program.now (get_or (map node_view nodes.old) index table.fresh) dir value) }
+{
+    nodes[index].take(program, dir, value);
+}
+
+// One of the nodes gave its value to a port, where it stands.
+#[inline(always)]
+fn gave_at(nodes: &mut [Node], index: usize, program: &Program, dir: Dir)
+    requires within { index < length nodes.old }
+    requires sound { IsSound program.now }
+    requires fits { table.FitsProgram program.now (get_or (map node_view nodes.old) index table.fresh) }
+    requires offers { IsSome (table.offers (get_or (map node_view nodes.old) index table.fresh) dir) }
+    ensures { map node_view nodes.new ≡ slice_set (map node_view nodes.old) index (table.gave program.now (get_or (map node_view nodes.old) index table.fresh) dir) }
+{
+    nodes[index].gave(program, dir);
+}
+
 impl State {
     // The node of a tile, where it stands.
     #[inline(always)]
@@ -61,15 +86,32 @@ impl State {
         &self.nodes[tile.number as usize]
     }
 
-    // Puts a node in place of that of a tile.
+    // The node of a tile takes a value from a port.
     #[inline(always)]
-    pub(crate) fn set_node(&mut self, tile: Tile, node: Node)
-        requires { tile.number < length self.old.state.nodes }
-        ensures { self.new ≡ record self.old { state = with_node self.old.state tile.number (node_view node) } }
+    pub(crate) fn take(&mut self, tile: Tile, program: &Program, dir: Dir, value: Value)
+        requires within { tile.number < length self.old.state.nodes }
+        requires sound { IsSound program.now }
+        requires fits { table.FitsProgram program.now (node_at self.old.state tile.number) }
+        requires wants { IsTrue (table.wants program.now (node_at self.old.state tile.number) dir) }
+        ensures { self.new ≡ record self.old { state = with_node self.old.state tile.number (table.take_value program.now (node_at self.old.state tile.number) dir value) } }
     {
-        let writes = writes(&node);
-        self.nodes[tile.number as usize] = node;
-        self.writing[tile.number as usize] = writes;
+        let index = tile.number as usize;
+        take_at(&mut self.nodes, index, program, dir, value);
+        self.writing[index] = writes(&self.nodes[index]);
+    }
+
+    // The node of a tile gave its value to a port.
+    #[inline(always)]
+    pub(crate) fn gave(&mut self, tile: Tile, program: &Program, dir: Dir)
+        requires within { tile.number < length self.old.state.nodes }
+        requires sound { IsSound program.now }
+        requires fits { table.FitsProgram program.now (node_at self.old.state tile.number) }
+        requires offers { IsSome (table.offers (node_at self.old.state tile.number) dir) }
+        ensures { self.new ≡ record self.old { state = with_node self.old.state tile.number (table.gave program.now (node_at self.old.state tile.number) dir) } }
+    {
+        let index = tile.number as usize;
+        gave_at(&mut self.nodes, index, program, dir);
+        self.writing[index] = writes(&self.nodes[index]);
     }
 
     // Makes the step of the node of a tile, where it can make one without a port, and tells what it would do.

@@ -1,3 +1,3 @@
-mod Advancing
+mod LocalSteps
 mod Products
 mod Rows

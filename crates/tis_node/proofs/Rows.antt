@@ -1,11 +1,12 @@
 -- The row of an instruction tells what the instruction does.
-use Rattle.std.proofs.Common.{◌≡◌, ℕ, zero, suc, ◌<◌, ℤ, pos, negsuc, Bool, true, false, List, [], ◌∷◌, length, get_or, replicate, set, length-set, Option, Some, inl, inr, refl, sym, ap, subst, ◌∙◌, arith}
+use Rattle.std.proofs.Common.{◌≡◌, ℕ, zero, suc, ◌<◌, ℤ, pos, negsuc, Bool, true, false, List, [], ◌∷◌, length, get_or, replicate, set, length-set, Option, Some, None, inl, inr, refl, sym, ap, subst, ◌∙◌, arith}
 use Rattle.std.specs.Prelude.{◌+ℤ◌, ◌-ℤ◌, ◌*ℤ◌, neg_ℤ, ◌==◌, not, IsTrue, if◌then◌else◌}
 use Rattle.std.proofs.lemmas.Bool.{cases_eq, cases_lt, ne_eqb}
 use Rattle.std.proofs.lemmas.Int.{ints}
 use Rattle.std.proofs.lemmas.List.{get_or-set_same, get_or-set_other, set_past}
 use lib.IntN.{one, zero-*ℤ, *ℤ-one, *ℤ_comm}
 use Rattle.tis_base.specs.Saturation.{sat, IsValue}
+use Rattle.tis_base.specs.declared.tiles.Dir.{Dir}
 use Rattle.tis_base.proofs.Saturating.{sat_value}
 use Rattle.tis_asm.specs.declared.instr.Source.{Source}
 use Rattle.tis_asm.specs.declared.instr.Source.TheVariants as from
@@ -17,9 +18,9 @@ use Rattle.tis_asm.specs.declared.instr.Jump.{Jump as JumpKind}
 use Rattle.tis_asm.specs.declared.instr.Jump.TheVariants as jump
 use Rattle.tis_asm.specs.declared.program.MarkedInstr.{MarkedInstr}
 use Rattle.tis_asm.specs.Programs.{SourceHasValue, InstrHasValue, HasValues}
-use Rattle.tis_asm.specs.Node.{Node, Ready, instr_at, next_of, away, jumps, is_local, local_by_instr}
+use Rattle.tis_asm.specs.Node.{Node, Ready, One, writes, instr_at, next_of, away, jumps, is_local, local_by_instr}
 use Rattle.tis_node.specs.declared.row.Row.{Row}
-use Rattle.tis_node.specs.Rows.{sign_place, pc_by, by_row, Tells, Waits, IsTold, silent, waiting, writing, straight, going_on, moving, dropping, moving_to, adding, taking_away, going_away, jumping, row_of, HasRows}
+use Rattle.tis_node.specs.Rows.{sign_place, pc_by, by_row, Tells, Waits, SendsTo, Sends, IsTold, silent, waiting, writing, sending_to, straight, going_on, moving, dropping, moving_to, adding, taking_away, going_away, jumping, row_of, HasRows}
 
 -- ---- sums of so many times two numbers
 
@@ -110,10 +111,18 @@ writing_tells_nothing (from.Port port) tells = cc
 writing_tells_nothing from.Any tells = cc
 writing_tells_nothing from.Last tells = cc
 
+sending_tells_nothing : (source : Source) (port : Dir) → IsTrue (sending_to source port).tells → ⊥
+sending_tells_nothing (from.Number number) port tells = cc
+sending_tells_nothing from.Acc port tells = cc
+sending_tells_nothing from.Nil port tells = cc
+sending_tells_nothing (from.Port from_port) port tells = cc
+sending_tells_nothing from.Any port tells = cc
+sending_tells_nothing from.Last port tells = cc
+
 moving_to_leads : (source : Source) (dest : Dest) (program : List MarkedInstr) (node : Node) → SourceHasValue source → Leads (moving_to source dest (next_of program node.pc)) (Mov source dest) program node
 moving_to_leads source to.Acc program node has tells acc bak = moving_leads source program node has tells acc bak
 moving_to_leads source to.Nil program node has tells acc bak = dropping_leads source program node tells acc bak
-moving_to_leads source (to.Port port) program node has tells acc bak = absurd (writing_tells_nothing source tells)
+moving_to_leads source (to.Port port) program node has tells acc bak = absurd (sending_tells_nothing source port tells)
 moving_to_leads source to.Any program node has tells acc bak = absurd (writing_tells_nothing source tells)
 moving_to_leads source to.Last program node has tells acc bak = absurd (writing_tells_nothing source tells)
 
@@ -222,10 +231,18 @@ waits_writing from.Nil dest = tt
 waits_writing from.Any dest = tt
 waits_writing from.Last dest = tt
 
+waits_sending : (source : Source) (port : Dir) → Waits (sending_to source port).waits (Some (Mov source (to.Port port)))
+waits_sending (from.Port from_port) port = λ node. (refl, λ dir. refl)
+waits_sending (from.Number number) port = tt
+waits_sending from.Acc port = tt
+waits_sending from.Nil port = tt
+waits_sending from.Any port = tt
+waits_sending from.Last port = tt
+
 waits_moving_to : (source : Source) (dest : Dest) (next : ℕ) → Waits (moving_to source dest next).waits (Some (Mov source dest))
 waits_moving_to source to.Acc next = waits_moving source next
 waits_moving_to source to.Nil next = waits_dropping source next
-waits_moving_to source (to.Port port) next = waits_writing source (to.Port port)
+waits_moving_to source (to.Port port) next = waits_sending source port
 waits_moving_to source to.Any next = waits_writing source to.Any
 waits_moving_to source to.Last next = waits_writing source to.Last
 
@@ -264,6 +281,84 @@ row_waits (Sub source) program pc = waits_taking_away source (next_of program pc
 row_waits (Jro source) program pc = waits_going_away source program pc
 row_waits (Jump kind number) program pc = tt
 
+-- ---- the port that is written to
+
+sends_to_port : (source : Source) (port : Dir) (program : List MarkedInstr) → SourceHasValue source → Sends (sending_to source port) (Some (Mov source (to.Port port))) program
+sends_to_port (from.Number number) port program has = λ node acc. (refl, ap (λ (z : ℤ). writes z (One port) node) (sym (ap sat (number_alone node.acc node.bak number) ∙ sat_value number has)))
+sends_to_port from.Acc port program has = λ node acc. (refl, ap (λ (z : ℤ). writes z (One port) node) (sym (ap sat (acc_kept node.acc node.bak) ∙ sat_value node.acc acc)))
+sends_to_port from.Nil port program has = λ node acc. (refl, ap (λ (z : ℤ). writes z (One port) node) (sym (ap sat (number_alone node.acc node.bak (pos 0)))))
+sends_to_port (from.Port from_port) port program has = tt
+sends_to_port from.Any port program has = tt
+sends_to_port from.Last port program has = tt
+
+-- the rows of all others write to no port
+moving_sends_none : (source : Source) (next : ℕ) → (moving source next).sends ≡ None
+moving_sends_none (from.Number number) next = refl
+moving_sends_none from.Acc next = refl
+moving_sends_none from.Nil next = refl
+moving_sends_none (from.Port port) next = refl
+moving_sends_none from.Any next = refl
+moving_sends_none from.Last next = refl
+
+dropping_sends_none : (source : Source) (next : ℕ) → (dropping source next).sends ≡ None
+dropping_sends_none (from.Number number) next = refl
+dropping_sends_none from.Acc next = refl
+dropping_sends_none from.Nil next = refl
+dropping_sends_none (from.Port port) next = refl
+dropping_sends_none from.Any next = refl
+dropping_sends_none from.Last next = refl
+
+writing_sends_none : (source : Source) → (writing source).sends ≡ None
+writing_sends_none (from.Number number) = refl
+writing_sends_none from.Acc = refl
+writing_sends_none from.Nil = refl
+writing_sends_none (from.Port port) = refl
+writing_sends_none from.Any = refl
+writing_sends_none from.Last = refl
+
+adding_sends_none : (source : Source) (next : ℕ) → (adding source next).sends ≡ None
+adding_sends_none (from.Number number) next = refl
+adding_sends_none from.Acc next = refl
+adding_sends_none from.Nil next = refl
+adding_sends_none (from.Port port) next = refl
+adding_sends_none from.Any next = refl
+adding_sends_none from.Last next = refl
+
+taking_away_sends_none : (source : Source) (next : ℕ) → (taking_away source next).sends ≡ None
+taking_away_sends_none (from.Number number) next = refl
+taking_away_sends_none from.Acc next = refl
+taking_away_sends_none from.Nil next = refl
+taking_away_sends_none (from.Port port) next = refl
+taking_away_sends_none from.Any next = refl
+taking_away_sends_none from.Last next = refl
+
+going_away_sends_none : (source : Source) (program : List MarkedInstr) (pc : ℕ) → (going_away source program pc).sends ≡ None
+going_away_sends_none (from.Number number) program pc = refl
+going_away_sends_none from.Acc program pc = refl
+going_away_sends_none from.Nil program pc = refl
+going_away_sends_none (from.Port port) program pc = refl
+going_away_sends_none from.Any program pc = refl
+going_away_sends_none from.Last program pc = refl
+
+-- a row without such a port says nothing of it
+says_nothing : (row : Row) (instr : Option Instr) (program : List MarkedInstr) → row.sends ≡ None → Sends row instr program
+says_nothing row instr program none = subst (λ (o : Option Dir). SendsTo o row instr program) (sym none) tt
+
+row_sends : (instr : Instr) (program : List MarkedInstr) (pc : ℕ) → InstrHasValue instr → Sends (row_of instr program pc) (Some instr) program
+row_sends Nop program pc has = tt
+row_sends Swp program pc has = tt
+row_sends Sav program pc has = tt
+row_sends Neg program pc has = tt
+row_sends (Mov source to.Acc) program pc has = says_nothing _ _ program (moving_sends_none source (next_of program pc))
+row_sends (Mov source to.Nil) program pc has = says_nothing _ _ program (dropping_sends_none source (next_of program pc))
+row_sends (Mov source (to.Port port)) program pc has = sends_to_port source port program has
+row_sends (Mov source to.Any) program pc has = says_nothing _ _ program (writing_sends_none source)
+row_sends (Mov source to.Last) program pc has = says_nothing _ _ program (writing_sends_none source)
+row_sends (Add source) program pc has = says_nothing _ _ program (adding_sends_none source (next_of program pc))
+row_sends (Sub source) program pc has = says_nothing _ _ program (taking_away_sends_none source (next_of program pc))
+row_sends (Jro source) program pc has = says_nothing _ _ program (going_away_sends_none source program pc)
+row_sends (Jump kind number) program pc has = tt
+
 -- ---- all rows
 
 -- the number of an instruction of a program is a value
@@ -278,7 +373,7 @@ silent_everywhere (suc count) zero row is = is
 silent_everywhere (suc count) (suc index) row is = silent_everywhere count index row is
 
 silent_tells : (row : Row) (program : List MarkedInstr) (pc : ℕ) → row ≡ silent → IsTold row program pc
-silent_tells row program pc is = subst (λ (r : Row). IsTold r program pc) (sym is) (λ tells. absurd cc, tt)
+silent_tells row program pc is = subst (λ (r : Row). IsTold r program pc) (sym is) (λ tells. absurd cc, tt, tt)
 
 -- at first no row tells anything
 pub no_rows : (program : List MarkedInstr) (row : Row) → row ≡ silent → HasRows (replicate 15 row) program
@@ -302,4 +397,5 @@ one_row_more rows program pc instr row has there is are = (
         let held = instr_held program pc instr there has in
         let tells = subst (λ (r : Row). Tells r (Some instr) program pc) (sym is) (row_tells instr program pc held.0 held.1) in
         let waits = subst (λ (r : Row). Waits r.waits (Some instr)) (sym is) (row_waits instr program pc) in
-        subst (λ (p : ℕ). IsTold row program p) (sym here) (subst (λ (o : Option Instr). Tells row o program pc × Waits row.waits o) (sym there) (tells, waits))
+        let sends = subst (λ (r : Row). Sends r (Some instr) program) (sym is) (row_sends instr program pc held.1) in
+        subst (λ (p : ℕ). IsTold row program p) (sym here) (subst (λ (o : Option Instr). Tells row o program pc × Waits row.waits o × Sends row o program) (sym there) (tells, waits, sends))

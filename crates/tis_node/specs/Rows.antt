@@ -10,7 +10,7 @@ use Rattle.tis_asm.specs.declared.instr.Instr.{Instr}
 use Rattle.tis_asm.specs.declared.instr.Instr.TheVariants.{Nop, Mov, Swp, Sav, Add, Sub, Neg, Jump, Jro}
 use Rattle.tis_asm.specs.declared.instr.Jump.{Jump as JumpKind}
 use Rattle.tis_asm.specs.declared.program.MarkedInstr.{MarkedInstr}
-use Rattle.tis_asm.specs.Node.{Node, Ready, is_same_dir, instr_at, next_of, away, jumps, is_local, local_by_instr, reads_from}
+use Rattle.tis_asm.specs.Node.{Node, Ready, One, writes, is_same_dir, instr_at, next_of, away, jumps, is_local, local_by_instr, reads_from}
 use Rattle.tis_node.specs.declared.row.Row.{Row}
 
 -- ---- a step by a row
@@ -43,19 +43,31 @@ abbrev pub Waits : Option Dir → Option Instr → Type 0
 Waits None instr = Unit {0}
 Waits (Some port) instr = (node : Node) → (is_local instr node ≡ false) × ((dir : Dir) → reads_from instr node dir ≡ is_same_dir port dir)
 
+-- the instruction needs no port to go on and writes to the port that the row has, if it has one, the number that would be ACC behind a step by the row
+abbrev pub SendsTo : Option Dir → Row → Option Instr → List MarkedInstr → Type 0
+SendsTo None row instr program = Unit {0}
+SendsTo (Some port) row instr program = (node : Node) → IsValue node.acc → IsTrue (is_local instr node) × (local_by_instr instr program node ≡ writes (acc_by row node.acc node.bak) (One port) node)
+
+abbrev pub Sends : Row → Option Instr → List MarkedInstr → Type 0
+Sends row instr program = SendsTo row.sends row instr program
+
 -- ---- the row of an instruction
 
--- of one that needs a port, or that writes to one
+-- of one of another kind
 abbrev pub silent : Row
-silent = record { tells = false; waits = None; of_acc = pos 0; of_bak = pos 0; plus = pos 0; saves = false; next = 0 ∷ 0 ∷ 0 ∷ [] }
+silent = record { tells = false; waits = None; sends = None; of_acc = pos 0; of_bak = pos 0; plus = pos 0; saves = false; next = 0 ∷ 0 ∷ 0 ∷ [] }
 
 -- of one that reads from a port
 abbrev pub waiting : Dir → Row
-waiting port = record { tells = false; waits = Some port; of_acc = pos 0; of_bak = pos 0; plus = pos 0; saves = false; next = 0 ∷ 0 ∷ 0 ∷ [] }
+waiting port = record { tells = false; waits = Some port; sends = None; of_acc = pos 0; of_bak = pos 0; plus = pos 0; saves = false; next = 0 ∷ 0 ∷ 0 ∷ [] }
+
+-- of one that writes so many times ACC and a number to a port
+abbrev pub sending : ℤ → ℤ → Dir → Row
+sending of_acc plus port = record { tells = false; waits = None; sends = Some port; of_acc = of_acc; of_bak = pos 0; plus = plus; saves = false; next = 0 ∷ 0 ∷ 0 ∷ [] }
 
 -- of one that goes on the same whatever ACC is
 abbrev pub straight : ℤ → ℤ → ℤ → Bool → ℕ → Row
-straight of_acc of_bak plus saves next = record { tells = true; waits = None; of_acc = of_acc; of_bak = of_bak; plus = plus; saves = saves; next = next ∷ next ∷ next ∷ [] }
+straight of_acc of_bak plus saves next = record { tells = true; waits = None; sends = None; of_acc = of_acc; of_bak = of_bak; plus = plus; saves = saves; next = next ∷ next ∷ next ∷ [] }
 
 -- of one that does nothing but go on
 abbrev pub going_on : ℕ → Row
@@ -79,7 +91,16 @@ dropping (from.Port port) next = waiting port
 dropping from.Any next = silent
 dropping from.Last next = silent
 
--- of one that moves a value to a port
+-- of one that moves a value to a port that is named
+abbrev pub sending_to : Source → Dir → Row
+sending_to (from.Number number) port = sending (pos 0) number port
+sending_to from.Acc port = sending (pos 1) (pos 0) port
+sending_to from.Nil port = sending (pos 0) (pos 0) port
+sending_to (from.Port from_port) port = waiting from_port
+sending_to from.Any port = silent
+sending_to from.Last port = silent
+
+-- of one that moves a value to ANY or LAST
 abbrev pub writing : Source → Row
 writing (from.Port port) = waiting port
 writing (from.Number number) = silent
@@ -92,7 +113,7 @@ writing from.Last = silent
 abbrev pub moving_to : Source → Dest → ℕ → Row
 moving_to source to.Acc next = moving source next
 moving_to source to.Nil next = dropping source next
-moving_to source (to.Port port) next = writing source
+moving_to source (to.Port port) next = sending_to source port
 moving_to source to.Any next = writing source
 moving_to source to.Last next = writing source
 
@@ -145,7 +166,7 @@ row_of (Jump jump number) program pc = jumping jump number (next_of program pc)
 
 -- it says what is true of the instruction at a number
 abbrev pub IsTold : Row → List MarkedInstr → ℕ → Type 0
-IsTold row program pc = Tells row (instr_at program pc) program pc × Waits row.waits (instr_at program pc)
+IsTold row program pc = Tells row (instr_at program pc) program pc × Waits row.waits (instr_at program pc) × Sends row (instr_at program pc) program
 
 -- there are fifteen rows, and each says what is true of the instruction at its number
 abbrev pub HasRows : List Row → List MarkedInstr → Type 0

@@ -1,6 +1,6 @@
 -- What contracts see of where the value of a source is.
-use Rattle.tis_node.specs.declared.node.Supply as held
-use Rattle.tis_node.specs.declared.node.Supply.TheVariants as held_as
+use Rattle.tis_node.specs.declared.doing.Supply as held
+use Rattle.tis_node.specs.declared.doing.Supply.TheVariants as held_as
 use Rattle.tis_asm.specs.Node.{Supply, AtHand, AtPort, AtAny}
 
 abbrev pub supply_view : held.Supply → Supply

@@ -2,7 +2,7 @@
 ghost use Rattle.std.specs.Prelude.{◌≡◌, ◌<◌, ◌≤◌, length};
 ghost use Rattle.tis_asm.specs.Programs.{HasValues};
 ghost use Rattle.tis_asm.specs.Node as table;
-ghost use Rattle.tis_node.specs.Rows.{HasRows, Tells, Waits};
+ghost use Rattle.tis_node.specs.Rows.{HasRows, Sends, Tells, Waits};
 
 use crate::row::{Row, row_of, silent};
 use std::marker::Model;
@@ -70,6 +70,7 @@ impl Decoded {
         requires { pc < 15 }
         ensures tells { Tells result.now (table.instr_at self.now pc) self.now pc }
         ensures waits { Waits result.now.waits (table.instr_at self.now pc) }
+        ensures sends { Sends result.now (table.instr_at self.now pc) self.now }
     {
         &self.rows[pc as usize]
     }

@@ -19,13 +19,17 @@
 //! memory or refuses anything. Each takes a time that doesn't grow with the program: it looks at the one
 //! instruction at `pc`.
 //!
-//! [`Decoded`] is a program that was read through once: beside each instruction that needs no port, or that reads from one,
-//! it has a row of numbers, from which a step is computed with few branches. [`Node::advance`], [`Node::intent_by`] and
+//! [`Decoded`] is a program that was read through once: beside each instruction that needs no port, or that reads from one
+//! or writes to one that is named, it has a row of numbers, from which a step is computed with few branches. [`Node::advance`], [`Node::intent_by`] and
 //! [`Node::waits_for`] take it, and give what the table says of the program.
 #![tactic(auto)]
 
+mod advancing;
 mod decoded;
+mod doing;
+mod intending;
 mod node;
+mod ports;
 mod row;
 
 pub use decoded::Decoded;

@@ -3,20 +3,23 @@ ghost use Rattle.std.specs.Prelude.{◌≡◌, ◌<◌, ◌*ℤ◌, ◌≤ℤ◌
 ghost use Rattle.tis_asm.specs.Node as table;
 ghost use Rattle.tis_node.specs.Rows as rows;
 
-use crate::node::{away, jumps};
+use crate::doing::{away, jumps};
 use tis_asm::{Dest, Instr, Jump, Program, Source};
 use tis_base::{Dir, Value};
 
 /// What an instruction does that needs no port and goes on at once: the new ACC is the nearest value to so many times
 /// ACC, so many times BAK and a number; BAK becomes ACC or stays; and the next instruction is one of three, by the sign
 /// of ACC. So new registers and pc are computed alike for all of them, without a branch. Of an instruction that reads from
-/// one port it is that port.
+/// one port it is that port. Of one that writes to a port that is named it is that port too, and what would be the new ACC is
+/// what is written.
 #[derive(Clone, Copy, Debug, PartialEq, Eq, Hash)]
 pub(crate) struct Row {
     // Whether the instruction goes on at once.
     pub(crate) tells: bool,
     // The port that it reads from, if it reads from one whatever the node did before.
     pub(crate) waits: Option<Dir>,
+    // The port that it writes to, if it needs none to go on and writes to one whatever the node did before.
+    pub(crate) sends: Option<Dir>,
     // How many times ACC and BAK are in the new ACC, and the number besides.
     pub(crate) of_acc: i8,
     pub(crate) of_bak: i8,
@@ -80,6 +83,7 @@ pub(crate) fn silent() -> Row
     Row {
         tells: false,
         waits: None,
+        sends: None,
         of_acc: 0,
         of_bak: 0,
         plus: 0,
@@ -95,9 +99,26 @@ fn waiting(port: Dir) -> Row
     Row {
         tells: false,
         waits: Some(port),
+        sends: None,
         of_acc: 0,
         of_bak: 0,
         plus: 0,
+        saves: false,
+        next: [0, 0, 0],
+    }
+}
+
+// The row of an instruction that writes so many times ACC and a number to a port.
+fn sending(of_acc: i8, plus: i16, port: Dir) -> Row
+    ensures { result ≡ rows.sending of_acc plus port }
+{
+    Row {
+        tells: false,
+        waits: None,
+        sends: Some(port),
+        of_acc,
+        of_bak: 0,
+        plus,
         saves: false,
         next: [0, 0, 0],
     }
@@ -110,6 +131,7 @@ fn straight(of_acc: i8, of_bak: i8, plus: i16, saves: bool, next: u8) -> Row
     Row {
         tells: true,
         waits: None,
+        sends: None,
         of_acc,
         of_bak,
         plus,
@@ -167,7 +189,21 @@ fn dropping(source: Source, next: u8) -> Row
     }
 }
 
-// The row of an instruction that moves a value to a port.
+// The row of an instruction that moves a value to a port that is named.
+fn sending_to(source: Source, port: Dir) -> Row
+    ensures { result ≡ rows.sending_to source port }
+{
+    match source {
+        Source::Number(number) => sending(0, narrow(number), port),
+        Source::Acc => sending(1, 0, port),
+        Source::Nil => sending(0, 0, port),
+        Source::Port(from_port) => waiting(from_port),
+        Source::Any => silent(),
+        Source::Last => silent(),
+    }
+}
+
+// The row of an instruction that moves a value to ANY or LAST.
 fn writing(source: Source) -> Row
     ensures { result ≡ rows.writing source }
 {
@@ -188,7 +224,7 @@ fn moving_to(source: Source, dest: Dest, next: u8) -> Row
     match dest {
         Dest::Acc => moving(source, next),
         Dest::Nil => dropping(source, next),
-        Dest::Port(_) => writing(source),
+        Dest::Port(port) => sending_to(source, port),
         Dest::Any => writing(source),
         Dest::Last => writing(source),
     }
@@ -254,6 +290,7 @@ fn jumping(jump: Jump, number: u8, next: u8) -> Row
     Row {
         tells: true,
         waits: None,
+        sends: None,
         of_acc: 1,
         of_bak: 0,
         plus: 0,

@@ -5,7 +5,7 @@ use Rattle.tis_asm.specs.Node.{Node, Mode, Ready, FitsProgram, source_of, instr_
 use Rattle.tis_asm.specs.PortRuns.{Local}
 use Rattle.tis_asm.proofs.Progress.{steps_keep_fitting}
 use Rattle.tis_node.specs.NodeView.{node_view}
-use Rattle.tis_node.proofs.Advancing.{stays_by}
+use Rattle.tis_node.proofs.LocalSteps.{stays_by}
 use Rattle.tis_node.proofs.node.Node.advance_here.Goals as goal
 
 pub returns-in-Some-clause-fits : goal.returns-in-Some-clause-fits

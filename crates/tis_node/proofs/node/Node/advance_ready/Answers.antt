@@ -6,7 +6,7 @@ use Rattle.tis_asm.specs.PortRuns.{Local}
 use Rattle.tis_asm.proofs.Progress.{steps_keep_fitting}
 use Rattle.tis_node.specs.NodeView.{node_view}
 use Rattle.tis_node.specs.Rows.{Waits}
-use Rattle.tis_node.proofs.Advancing.{local_wants_none}
+use Rattle.tis_node.proofs.LocalSteps.{local_wants_none}
 use Rattle.tis_node.proofs.node.Node.advance_ready.Goals as goal
 
 pub returns-then-row-clause-takes : goal.returns-then-row-clause-takes

@@ -4,7 +4,7 @@ use Rattle.tis_base.specs.declared.tiles.Dir.{Dir}
 use Rattle.tis_asm.specs.Node.{Mode, instr_at, can_local_in, wants_in}
 use Rattle.tis_node.specs.NodeView.{node_view}
 use Rattle.tis_node.specs.Rows.{Waits}
-use Rattle.tis_node.proofs.Advancing.{local_wants_none}
+use Rattle.tis_node.proofs.LocalSteps.{local_wants_none}
 use Rattle.tis_node.proofs.node.Node.intent_ready.Goals as goal
 
 pub returns-then-row-clause-takes : goal.returns-then-row-clause-takes

@@ -11,5 +11,5 @@ pub returns-in-Some-clause-fits : goal.returns-in-Some-clause-fits
 returns-in-Some-clause-fits c =
     let program = c.args.program.now in
     let node = node_view c.args.self.now in
-    let step : take_value program node c.args.dir c.args.value ≡ node_view c.do_take.new.self = ap (λ (o : Option Instr). take_by_instr o program node c.args.dir c.args.value) (sym c.in-Some.ensures.instr) ∙ sym c.do_take.ensures in
+    let step : take_value program node c.args.dir c.args.value ≡ node_view c.take_by.new.self = ap (λ (o : Option Instr). take_by_instr o program node c.args.dir c.args.value) (sym c.in-Some.ensures.instr) ∙ sym c.take_by.ensures in
     subst (λ (n : Node). FitsProgram program n) step (steps_keep_fitting program node (Took c.args.dir c.args.value) c.in-Some.ensures.values c.requires.sound c.requires.fits (c.requires.wants, c.get.ensures.held))
