@@ -1,5 +1,5 @@
 -- What can happen, list by list.
-use Rattle.std.proofs.Common.{◌≡◌, ℕ, ◌+◌, ◌<◌, ◌≤◌, true, false, cond, List, [], ◌∷◌, ◌++◌, length, map, get_or, take, Some, None, refl, sym, ap, ◌∙◌, arith, append_assoc}
+use Rattle.std.proofs.Common.{◌≡◌, ℕ, ◌+◌, ◌-◌, ◌<◌, ◌≤◌, true, false, cond, List, [], ◌∷◌, ◌++◌, length, map, get_or, take, Some, None, refl, sym, ap, ◌∙◌, arith, append_assoc}
 use Rattle.std.specs.Prelude.{Bool, flat_map}
 use Rattle.std.specs.List.{range_with_len}
 use Rattle.std.specs.Prelude.{slice_get}
@@ -7,7 +7,7 @@ use Rattle.arrayvec.specs.ArrayVec.{ArrayVec}
 use Rattle.std.proofs.Math.ListN.{get_or-append}
 use Rattle.std.proofs.lemmas.List.{take_more, take_all, flat_map_more, length-append, get_or-append-add, get_or-map, length-map}
 use Rattle.std.proofs.lemmas.List.FromFn.{fill_by_all}
-use Rattle.tis_grid.specs.HeldChoices.{port_list, listed, AreChoices}
+use Rattle.tis_grid.specs.HeldChoices.{events_in, tile_at, listed, AreChoices}
 use Rattle.tis_grid.specs.declared.choices.Choices.{Choices}
 use Rattle.tis_grid.proofs.Starting.{twelve_tiles}
 use Rattle.tis_grid.specs.Drawn.{choice_of, next_of}
@@ -20,7 +20,8 @@ use Rattle.tis_grid.specs.declared.event.Event.TheVariants.{Pop, Push, Meet, In,
 use Rattle.tis_grid.specs.State.{Grid, IsGrid, State}
 use Rattle.tis_grid.specs.Events.{is_enabled, is_giving, is_waiting, is_compute_at}
 use Rattle.tis_grid.specs.Choices.{events_towards, events_at, all_events, enabled_events, those_enabled}
-use Rattle.std.specs.Prelude.{filter, ◌&&◌}
+use Rattle.std.specs.Prelude.{filter, ◌&&◌, nat_lt}
+use Rattle.std.proofs.lemmas.Bool.{lt-ltb, le-ltb}
 use Rattle.tis_base.specs.declared.tiles.Dir.{Dir}
 use Rattle.tis_base.specs.declared.tiles.Dir.TheVariants.{Left, Right, Up, Down}
 
@@ -141,70 +142,84 @@ module _ (grid : Grid) (state : State) (tile : ℕ) where
 abbrev items_of : ArrayVec Event → List Event
 items_of events = events.items
 
-module _ (tiles : List (ArrayVec Event)) (ports : List Event) where
-  -- an event of a tile's list
-  pub found_in : (tile left index : ℕ) (e : ArrayVec Event) (d : Event) → tile < length tiles → left < length (get_or tiles tile e).items → length (flat_map items_of (take tile tiles)) + left ≡ index → slice_get (flat_map items_of tiles ++ ports) index ≡ Some (get_or (get_or tiles tile e).items left d)
-  found_in tile left index e d within below is =
-      let fits = length-flat_map-take items_of tiles tile e within in
-      let inside : index < length (flat_map items_of tiles) = omega arith in
-      let there : index < length (flat_map items_of tiles ++ ports) = omega (arith, length-append (flat_map items_of tiles) ports) in
-      slice_get-get_or (flat_map items_of tiles ++ ports) index d there
-      ∙ ap (λ (x : Event). Some x) (get_or-append (flat_map items_of tiles) ports d index inside ∙ ap (λ (i : ℕ). get_or (flat_map items_of tiles) i d) (sym is) ∙ get_or-flat_map items_of tiles tile left e d within below)
-
-  -- an event of the ports
-  pub found_behind : (left index : ℕ) (d : Event) → left < length ports → length (flat_map items_of tiles) + left ≡ index → slice_get (flat_map items_of tiles ++ ports) index ≡ Some (get_or ports left d)
-  found_behind left index d below is =
-      let there : index < length (flat_map items_of tiles ++ ports) = omega (arith, length-append (flat_map items_of tiles) ports) in
-      slice_get-get_or (flat_map items_of tiles ++ ports) index d there
-      ∙ ap (λ (x : Event). Some x) (ap (λ (i : ℕ). get_or (flat_map items_of tiles ++ ports) i d) (sym is) ∙ get_or-append-add (flat_map items_of tiles) ports left d)
+module _ (lists : List (ArrayVec Event)) where
+  -- an event of a list
+  pub found_in : (list left index : ℕ) (e : ArrayVec Event) (d : Event) → list < length lists → left < length (get_or lists list e).items → length (flat_map items_of (take list lists)) + left ≡ index → slice_get (flat_map items_of lists) index ≡ Some (get_or (get_or lists list e).items left d)
+  found_in list left index e d within below is =
+      let fits = length-flat_map-take items_of lists list e within in
+      let there : index < length (flat_map items_of lists) = omega arith in
+      slice_get-get_or (flat_map items_of lists) index d there
+      ∙ ap (λ (x : Event). Some x) (ap (λ (i : ℕ). get_or (flat_map items_of lists) i d) (sym is) ∙ get_or-flat_map items_of lists list left e d within below)
 
   -- all lists
-  pub all_of : (count : ℕ) → length tiles ≤ count → flat_map items_of (take count tiles) ≡ flat_map items_of tiles
-  all_of count past = ap (λ (list : List (ArrayVec Event)). flat_map items_of list) (take_all count tiles past)
+  pub all_of : (count : ℕ) → length lists ≤ count → flat_map items_of (take count lists) ≡ flat_map items_of lists
+  all_of count past = ap (λ (list : List (ArrayVec Event)). flat_map items_of list) (take_all count lists past)
 
   -- one more list
-  pub one_more_list : (tile : ℕ) (e : ArrayVec Event) → tile < length tiles → length (flat_map items_of (take (tile + 1) tiles)) ≡ length (flat_map items_of (take tile tiles)) + length (get_or tiles tile e).items
-  one_more_list tile e within =
-      ap (λ (list : List (ArrayVec Event)). length (flat_map items_of list)) (take_more tiles tile e within)
-      ∙ ap (λ (list : List Event). length list) (sym (flat_map_more items_of [] (take tile tiles) (get_or tiles tile e)))
-      ∙ length-append (flat_map items_of (take tile tiles)) (get_or tiles tile e).items
+  pub one_more_list : (list : ℕ) (e : ArrayVec Event) → list < length lists → length (flat_map items_of (take (list + 1) lists)) ≡ length (flat_map items_of (take list lists)) + length (get_or lists list e).items
+  one_more_list list e within =
+      ap (λ (some : List (ArrayVec Event)). length (flat_map items_of some)) (take_more lists list e within)
+      ∙ ap (λ (some : List Event). length some) (sym (flat_map_more items_of [] (take list lists) (get_or lists list e)))
+      ∙ length-append (flat_map items_of (take list lists)) (get_or lists list e).items
+
+-- ---- the list of each tile and port
+
+-- a test of two numbers, as the definitions make it
+below_is : (a b : ℕ) → a < b → nat_lt a b ≡ true
+below_is a b below = lt-ltb a b below
+
+behind_is : (a b : ℕ) → b ≤ a → nat_lt a b ≡ false
+behind_is a b behind = le-ltb a b behind
+
+pub events_of_tile : (tile : ℕ) → tile < 12 → events_in tile ≡ events_at tile
+events_of_tile tile below = ap (λ (b : Bool). cond b (events_at tile) (cond (nat_lt tile 16) (In (tile - 12) ∷ []) (Out (tile - 16) ∷ []))) (below_is tile 12 below)
+
+pub events_of_input : (list : ℕ) → 12 ≤ list → list < 16 → events_in list ≡ In (list - 12) ∷ []
+events_of_input list behind below =
+    ap (λ (b : Bool). cond b (events_at list) (cond (nat_lt list 16) (In (list - 12) ∷ []) (Out (list - 16) ∷ []))) (behind_is list 12 behind)
+    ∙ ap (λ (b : Bool). cond b (In (list - 12) ∷ []) (Out (list - 16) ∷ [])) (below_is list 16 below)
+
+pub events_of_output : (list : ℕ) → 16 ≤ list → events_in list ≡ Out (list - 16) ∷ []
+events_of_output list behind =
+    ap (λ (b : Bool). cond b (events_at list) (cond (nat_lt list 16) (In (list - 12) ∷ []) (Out (list - 16) ∷ []))) (behind_is list 12 (omega arith))
+    ∙ ap (λ (b : Bool). cond b (In (list - 12) ∷ []) (Out (list - 16) ∷ [])) (behind_is list 16 behind)
+
+pub tile_of_input : (list : ℕ) → list < 16 → tile_at list ≡ list - 12
+tile_of_input list below = ap (λ (b : Bool). cond b (list - 12) (list - 8)) (below_is list 16 below)
+
+pub tile_of_output : (list : ℕ) → 16 ≤ list → tile_at list ≡ list - 8
+tile_of_output list behind = ap (λ (b : Bool). cond b (list - 12) (list - 8)) (behind_is list 16 behind)
 
 -- ---- all events that are enabled
 
 module _ (grid : Grid) (state : State) where
-  -- the tiles
-  tiles_listed : (tiles : List (ArrayVec Event)) (count : ℕ) → length tiles ≡ count → ((tile : ℕ) → tile < count → (get_or tiles tile (record { items = [] })).items ≡ those_enabled grid state (events_at tile)) →
-      flat_map items_of tiles ≡ those_enabled grid state (flat_map events_at (range_with_len 0 count))
-  tiles_listed tiles count len each =
-      let lists = fill_by_all (λ tile. those_enabled grid state (events_at tile)) (map items_of tiles) count [] (length-map tiles items_of ∙ len)
-      (λ tile below. get_or-map items_of tiles tile (record { items = [] }) [] (omega arith) ∙ each tile below) in
-      sym (flat_map-map (λ (xs : List Event). xs) items_of tiles)
-      ∙ ap (λ (xss : List (List Event)). flat_map (λ (xs : List Event). xs) xss) lists
-      ∙ flat_map-map (λ (xs : List Event). xs) (λ tile. those_enabled grid state (events_at tile)) (range_with_len 0 count)
-      ∙ sym (those-flat_map grid state events_at (range_with_len 0 count))
+  -- the lists
+  lists_listed : (lists : List (ArrayVec Event)) (count : ℕ) → length lists ≡ count → ((list : ℕ) → list < count → (get_or lists list (record { items = [] })).items ≡ those_enabled grid state (events_in list)) →
+      flat_map items_of lists ≡ those_enabled grid state (flat_map events_in (range_with_len 0 count))
+  lists_listed lists count len each =
+      let all = fill_by_all (λ list. those_enabled grid state (events_in list)) (map items_of lists) count [] (length-map lists items_of ∙ len)
+      (λ list below. get_or-map items_of lists list (record { items = [] }) [] (omega arith) ∙ each list below) in
+      sym (flat_map-map (λ (xs : List Event). xs) items_of lists)
+      ∙ ap (λ (xss : List (List Event)). flat_map (λ (xs : List Event). xs) xss) all
+      ∙ flat_map-map (λ (xs : List Event). xs) (λ list. those_enabled grid state (events_in list)) (range_with_len 0 count)
+      ∙ sym (those-flat_map grid state events_in (range_with_len 0 count))
 
-  -- the ports
-  four_ports : (columns : ℕ) → columns ≡ 4 → port_list ≡ map (λ position. In position) (range_with_len 0 columns) ++ map (λ position. Out position) (range_with_len 0 columns)
-  four_ports columns is = ap (λ (n : ℕ). map (λ position. In position) (range_with_len 0 n) ++ map (λ position. Out position) (range_with_len 0 n)) (sym is)
+  -- all of them are the events of twelve tiles and four columns
+  twenty_lists : (tiles columns : ℕ) → tiles ≡ 12 → columns ≡ 4 → flat_map events_in (range_with_len 0 20) ≡ flat_map events_at (range_with_len 0 tiles) ++ map (λ position. In position) (range_with_len 0 columns) ++ map (λ position. Out position) (range_with_len 0 columns)
+  twenty_lists tiles columns tiles-is columns-is =
+      ap (λ (n : ℕ). flat_map events_at (range_with_len 0 n) ++ map (λ position. In position) (range_with_len 0 4) ++ map (λ position. Out position) (range_with_len 0 4)) (sym tiles-is)
+      ∙ ap (λ (n : ℕ). flat_map events_at (range_with_len 0 tiles) ++ map (λ position. In position) (range_with_len 0 n) ++ map (λ position. Out position) (range_with_len 0 n)) (sym columns-is)
 
   -- those of all events
   all_enabled : those_enabled grid state (all_events grid) ≡ enabled_events grid state
   unfolding those_enabled
   all_enabled = refl
 
-  pub all_listed : (tiles : List (ArrayVec Event)) (ports : List Event) → length grid.puzzle.tiles.kinds ≡ 12 → grid.puzzle.tiles.shape.columns ≡ 4 → length tiles ≡ 12 →
-      ((tile : ℕ) → tile < 12 → (get_or tiles tile (record { items = [] })).items ≡ those_enabled grid state (events_at tile)) → ports ≡ those_enabled grid state port_list →
-      flat_map items_of tiles ++ ports ≡ enabled_events grid state
-  all_listed tiles ports kinds columns len each ports_are =
-      let first = tiles_listed tiles (length grid.puzzle.tiles.kinds) (len ∙ sym kinds) (λ tile below. let inside : tile < 12 = omega arith in each tile inside) in
-      let second = ports_are ∙ ap (λ (xs : List Event). those_enabled grid state xs) (four_ports grid.puzzle.tiles.shape.columns columns) in
-      let ins = map (λ position. In position) (range_with_len 0 grid.puzzle.tiles.shape.columns) in
-      let outs = map (λ position. Out position) (range_with_len 0 grid.puzzle.tiles.shape.columns) in
-      let of_tiles = flat_map events_at (range_with_len 0 (length grid.puzzle.tiles.kinds)) in
-      ap (λ (xs : List Event). xs ++ ports) first
-      ∙ ap (λ (xs : List Event). those_enabled grid state of_tiles ++ xs) second
-      ∙ sym (those-append grid state of_tiles (ins ++ outs))
-      ∙ ap (λ (xs : List Event). those_enabled grid state xs) (sym (append_assoc of_tiles ins outs))
+  pub all_listed : (lists : List (ArrayVec Event)) → length grid.puzzle.tiles.kinds ≡ 12 → grid.puzzle.tiles.shape.columns ≡ 4 → length lists ≡ 20 →
+      ((list : ℕ) → list < 20 → (get_or lists list (record { items = [] })).items ≡ those_enabled grid state (events_in list)) → flat_map items_of lists ≡ enabled_events grid state
+  all_listed lists kinds columns len each =
+      lists_listed lists 20 len each
+      ∙ ap (λ (xs : List Event). those_enabled grid state xs) (twenty_lists (length grid.puzzle.tiles.kinds) grid.puzzle.tiles.shape.columns kinds columns)
       ∙ all_enabled
 
 -- an element of a list that isn't empty, as a word chooses it
@@ -219,7 +234,7 @@ none_chosen (first ∷ events) word none = absurd (omega arith)
 
 -- what is listed is what is enabled
 pub choices_list : (grid : Grid) (state : State) (choices : Choices) → IsGrid grid → AreChoices grid state choices → listed choices ≡ enabled_events grid state
-choices_list grid state choices is_grid are = all_listed grid state choices.tiles choices.ports.items (twelve_tiles grid is_grid) is_grid.puzzle.tiles.allowed.0 are.len are.tiles are.ports
+choices_list grid state choices is_grid are = all_listed grid state choices.lists (twelve_tiles grid is_grid) is_grid.puzzle.tiles.allowed.0 are.len are.right
 
 -- a word chooses the same of both
 pub drawn_from : (grid : Grid) (state : State) (choices : Choices) (word : ℕ) → IsGrid grid → AreChoices grid state choices → next_of (listed choices) word ≡ next_of (enabled_events grid state) word

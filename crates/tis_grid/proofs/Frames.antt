@@ -1,7 +1,7 @@
 -- What an event leaves as it is.
-use Rattle.std.proofs.Common.{◌≡◌, ◌≢◌, ℕ, ◌*◌, ◌%◌, ◌<◌, ℤ, false, cond, List, [], ◌∷◌, length, set, Option, Some, None, option_map, unwrap_or, refl, sym, ap, ◌∙◌, subst, inl, inr, arith}
+use Rattle.std.proofs.Common.{◌≡◌, ◌≢◌, ℕ, ◌*◌, ◌-◌, ◌%◌, ◌<◌, ◌≤◌, ℤ, true, false, cond, List, [], ◌∷◌, length, set, Option, Some, None, option_map, unwrap_or, refl, sym, ap, ◌∙◌, subst, inl, inr, arith}
 use Rattle.std.specs.Prelude.{Bool, ◌&&◌, ◌⊎◌, filter, nat_lt, is_some, IfSome}
-use Rattle.std.proofs.lemmas.Bool.{cases_eq}
+use Rattle.std.proofs.lemmas.Bool.{cases_eq, ltb-true, ltb-false}
 use Rattle.std.proofs.lemmas.List.{get_or-set_other}
 use Rattle.tis_base.specs.Tiles.{opposite, neighbour_of}
 use Rattle.tis_base.specs.declared.tiles.Shape.{Shape}
@@ -13,10 +13,12 @@ use Rattle.tis_devices.specs.Stack.{ROOM}
 use Rattle.tis_grid.specs.declared.event.Event.{Event}
 use Rattle.tis_grid.specs.declared.event.Event.TheVariants.{Local, Meet, In, Out, Push, Pop}
 use Rattle.tis_grid.specs.declared.choices.Choices.{Choices}
-use Rattle.tis_grid.specs.State.{Grid, IsGrid, State, node_at, stack_at}
-use Rattle.tis_grid.specs.Events.{program_of, next_tile, is_compute_at, is_memory_at, is_waiting, is_giving, has_room, has_value, is_enabled, after_event}
+use Rattle.tis_grid.specs.State.{Grid, IsGrid, State, left_at, node_at, stack_at}
+use Rattle.tis_grid.specs.Puzzle.{has_output}
+use Rattle.tis_grid.specs.Events.{bottom_of, program_of, next_tile, is_compute_at, is_memory_at, is_waiting, is_giving, has_room, has_value, is_enabled, after_event}
 use Rattle.tis_grid.specs.Choices.{events_at, those_enabled}
-use Rattle.tis_grid.specs.HeldChoices.{IsRight, IsApart, AreRenewed, touched}
+use Rattle.tis_grid.specs.HeldChoices.{IsRight, IsApart, AreRenewed, events_in, tile_at, touched}
+use Rattle.tis_grid.proofs.Choosing.{events_of_tile, events_of_input, events_of_output, tile_of_input, tile_of_output}
 use Rattle.tis_grid.proofs.Places.{next_left, next_right, next_up, next_down, next_back, next_differs, some_columns}
 use Rattle.tis_grid.proofs.Starting.{twelve_tiles}
 
@@ -154,10 +156,64 @@ twice Right = refl
 twice Up = refl
 twice Down = refl
 
+-- a number is below another, or isn't
+below_or_not : (a b : ℕ) → (a < b) ⊎ (b ≤ a)
+below_or_not a b = decide (nat_lt a b) refl
+  where
+    decide : (test : Bool) → nat_lt a b ≡ test → (a < b) ⊎ (b ≤ a)
+    decide true is = inl (ltb-true a b is)
+    decide false is = inr (ltb-false a b is)
+
+-- ---- ports
+
+-- an input at a tile that an event doesn't touch has as many values left
+left_same : (grid : Grid) (state : State) (event : Event) (position : ℕ) → position ≢ (touched grid event).0 → left_at (after_event grid state event) position ≡ left_at state position
+left_same grid state (Local at) position apart = refl
+left_same grid state (Meet at dir) position apart = refl
+left_same grid state (In other) position apart = ap (λ (left : Option ℕ). unwrap_or left 0) (get_or-set_other state.left other position _ None apart)
+left_same grid state (Out other) position apart = refl
+left_same grid state (Push at dir) position apart = refl
+left_same grid state (Pop at dir) position apart = refl
+
+-- the tile above an output, of which this is the list
+pub bottom_is : (grid : Grid) → IsGrid grid → (list : ℕ) → 16 ≤ list → bottom_of grid (list - 16) ≡ list - 8
+bottom_is grid is_grid list past =
+    let eight : grid.puzzle.tiles.shape.columns * (grid.puzzle.tiles.shape.rows - 1) ≡ 8 =
+    ap (λ (n : ℕ). n * (grid.puzzle.tiles.shape.rows - 1)) is_grid.puzzle.tiles.allowed.0 ∙ ap (λ (n : ℕ). 4 * (n - 1)) is_grid.puzzle.tiles.allowed.1 in
+    omega (arith, eight)
+
+module _ (grid : Grid) (is_grid : IsGrid grid) (before : State) (event : Event) (list : ℕ) where
+  -- the one event of a list, in both states
+  one_same : (only : Event) → events_in list ≡ only ∷ [] → is_enabled grid (after_event grid before event) only ≡ is_enabled grid before only → those_enabled grid before (events_in list) ≡ those_enabled grid (after_event grid before event) (events_in list)
+  unfolding AgreeOn
+  one_same only is same =
+      ap (λ (events : List Event). those_enabled grid before events) is
+      ∙ sym (those_same grid before (after_event grid before event) (only ∷ []) (same, tt))
+      ∙ ap (λ (events : List Event). those_enabled grid (after_event grid before event) events) (sym is)
+
+  input_same : 12 ≤ list → list < 16 → tile_at list ≢ (touched grid event).0 → tile_at list ≢ (touched grid event).1 → those_enabled grid before (events_in list) ≡ those_enabled grid (after_event grid before event) (events_in list)
+  input_same behind below not_first not_second =
+      let tile = tile_of_input list below in
+      let first : list - 12 ≢ (touched grid event).0 = λ is. not_first (tile ∙ is) in
+      let second : list - 12 ≢ (touched grid event).1 = λ is. not_second (tile ∙ is) in
+      let same = untouched grid before event (list - 12) first second in
+      one_same (In (list - 12)) (events_of_input list behind below)
+      (ap (λ (b : Bool). nat_lt (list - 12) grid.puzzle.tiles.shape.columns && b)
+      (both_same _ _ _ _ (ap (λ (n : ℕ). nat_lt 0 n) (left_same grid before event (list - 12) first)) (waiting_same grid before (after_event grid before event) (list - 12) Up same)))
+
+  output_same : 16 ≤ list → tile_at list ≢ (touched grid event).0 → tile_at list ≢ (touched grid event).1 → those_enabled grid before (events_in list) ≡ those_enabled grid (after_event grid before event) (events_in list)
+  output_same past not_first not_second =
+      let bottom : bottom_of grid (list - 16) ≡ tile_at list = bottom_is grid is_grid list past ∙ sym (tile_of_output list past) in
+      let first : bottom_of grid (list - 16) ≢ (touched grid event).0 = λ is. not_first (sym bottom ∙ is) in
+      let second : bottom_of grid (list - 16) ≢ (touched grid event).1 = λ is. not_second (sym bottom ∙ is) in
+      let same = untouched grid before event (bottom_of grid (list - 16)) first second in
+      one_same (Out (list - 16)) (events_of_output list past)
+      (ap (λ (b : Bool). nat_lt (list - 16) grid.puzzle.tiles.shape.columns && (has_output grid.puzzle.outputs (list - 16) && b)) (giving_same grid before (after_event grid before event) (bottom_of grid (list - 16)) Down same))
+
 -- ---- lists that were made anew
 
 -- behind an event all lists are right, once those that it concerns were made anew around what it touched
-module _ (grid : Grid) (before : State) (event : Event) (first second third : Choices) (is_grid : IsGrid grid) (were : (tile : ℕ) → tile < 12 → IsRight grid before first.tiles tile)
+module _ (grid : Grid) (before : State) (event : Event) (first second third : Choices) (is_grid : IsGrid grid) (were : (list : ℕ) → list < 20 → IsRight grid before first.lists list)
     (once : AreRenewed grid (after_event grid before event) (touched grid event).0 first second) (again : AreRenewed grid (after_event grid before event) (touched grid event).1 second third) where
   after : State
   after = after_event grid before event
@@ -172,8 +228,15 @@ module _ (grid : Grid) (before : State) (event : Event) (first second third : Ch
     stays : (dir : Dir) (next : ℕ) → next_tile grid tile dir ≡ Some next → IsApart grid (after_event grid before event) next tile (opposite dir) → SameTowards grid before (after_event grid before event) tile dir
     stays dir next is apart = same_apart grid before (after_event grid before event) tile same dir next is (ap (λ (d : Dir). is_giving grid (after_event grid before event) tile d) (sym (twice dir)) ∙ apart.0) apart.1
 
+    -- what a list of a tile has, in both states
+    as_before : (tile : ℕ) → tile < 12 → those_enabled grid (after_event grid before event) (events_at tile) ≡ those_enabled grid before (events_at tile) → those_enabled grid before (events_in tile) ≡ those_enabled grid (after_event grid before event) (events_in tile)
+    as_before tile within same =
+        ap (λ (events : List Event). those_enabled grid before events) (events_of_tile tile within)
+        ∙ sym same
+        ∙ ap (λ (events : List Event). those_enabled grid (after_event grid before event) events) (sym (events_of_tile tile within))
+
     -- the tile's list was made anew, or what it can do in a direction is as it was
-    towards : (dir : Dir) → IsRight grid (after_event grid before event) third.tiles tile ⊎ SameTowards grid before (after_event grid before event) tile dir
+    towards : (dir : Dir) → IsRight grid (after_event grid before event) third.lists tile ⊎ SameTowards grid before (after_event grid before event) tile dir
     towards dir =
         elim (next_or_not (next_tile grid tile dir) (touched grid event).1) [
           | inl is ↦ elim (again.around (opposite dir) tile (back dir (touched grid event).1 is)) [
@@ -189,7 +252,7 @@ module _ (grid : Grid) (before : State) (event : Event) (first second third : Ch
           ]
         ]
 
-    far_right : IsRight grid (after_event grid before event) third.tiles tile
+    far_right : IsRight grid (after_event grid before event) third.lists tile
     far_right =
         elim (towards Left) [
           | inl right ↦ right
@@ -199,7 +262,7 @@ module _ (grid : Grid) (before : State) (event : Event) (first second third : Ch
               | inl there ↦ there
               | inr up ↦ elim (towards Down) [
                 | inl there ↦ there
-                | inr down ↦ again.others tile (once.others tile (were tile within ∙ sym (events_same grid before (after_event grid before event) tile same (each left right up down))))
+                | inr down ↦ again.others tile (once.others tile (were tile (omega arith) ∙ as_before tile within (events_same grid before (after_event grid before event) tile same (each left right up down))))
               ]
             ]
           ]
@@ -211,33 +274,58 @@ module _ (grid : Grid) (before : State) (event : Event) (first second third : Ch
         each left right up down Up = up
         each left right up down Down = down
 
-  all_right : (tile : ℕ) → tile < 12 → IsRight grid (after_event grid before event) third.tiles tile
-  all_right tile within =
+  tile_right : (tile : ℕ) → tile < 12 → IsRight grid (after_event grid before event) third.lists tile
+  tile_right tile within =
       elim (cases_eq tile (touched grid event).1) [
-        | inl is ↦ subst (λ (t : ℕ). IsRight grid (after_event grid before event) third.tiles t) (sym is) again.here
+        | inl is ↦ subst (λ (t : ℕ). IsRight grid (after_event grid before event) third.lists t) (sym is) again.here
         | inr not_second ↦ elim (cases_eq tile (touched grid event).0) [
-          | inl is ↦ again.others tile (subst (λ (t : ℕ). IsRight grid (after_event grid before event) second.tiles t) (sym is) once.here)
+          | inl is ↦ again.others tile (subst (λ (t : ℕ). IsRight grid (after_event grid before event) second.lists t) (sym is) once.here)
           | inr not_first ↦ far_right tile within not_first not_second
         ]
+      ]
+
+  -- a port's tile isn't touched, and its event can happen exactly where it could before
+  port_same : (list : ℕ) → 12 ≤ list → list < 20 → tile_at list ≢ (touched grid event).0 → tile_at list ≢ (touched grid event).1 → those_enabled grid before (events_in list) ≡ those_enabled grid (after_event grid before event) (events_in list)
+  port_same list behind within not_first not_second =
+      elim (below_or_not list 16) [
+        | inl below ↦ input_same grid is_grid before event list behind below not_first not_second
+        | inr past ↦ output_same grid is_grid before event list past not_first not_second
+      ]
+
+  port_right : (list : ℕ) → 12 ≤ list → list < 20 → IsRight grid (after_event grid before event) third.lists list
+  port_right list behind within =
+      elim (cases_eq (tile_at list) (touched grid event).1) [
+        | inl is ↦ again.ports list behind within is
+        | inr not_second ↦ elim (cases_eq (tile_at list) (touched grid event).0) [
+          | inl is ↦ again.others list (once.ports list behind within is)
+          | inr not_first ↦ again.others list (once.others list (were list within ∙ port_same list behind within not_first not_second))
+        ]
+      ]
+
+  all_right : (list : ℕ) → list < 20 → IsRight grid (after_event grid before event) third.lists list
+  all_right list within =
+      elim (below_or_not list 12) [
+        | inl below ↦ tile_right list below
+        | inr behind ↦ port_right list behind within
       ]
 
 -- what was made anew around a tile is so around it once more
 renewed_again : (grid : Grid) (state : State) (tile : ℕ) (first second third : Choices) → third ≡ second → AreRenewed grid state tile first second → AreRenewed grid state tile second third
 renewed_again grid state tile first second third same renewed =
-    subst (λ (c : Choices). AreRenewed grid state tile second c) (sym same) (record { len = renewed.len; here = renewed.here; around = renewed.around; others = λ other right. right })
+    subst (λ (c : Choices). AreRenewed grid state tile second c) (sym same) (record { len = renewed.len; here = renewed.here; ports = renewed.ports; around = renewed.around; others = λ other right. right })
 
 -- the same, for a state and tiles that are these, of which the second one may be the first
 pub all_right_at : (grid : Grid) (before after : State) (event : Event) (x y : ℕ) (first second third : Choices) → IsGrid grid → after ≡ after_event grid before event → x ≡ (touched grid event).0 → y ≡ (touched grid event).1 →
-    ((tile : ℕ) → tile < 12 → IsRight grid before first.tiles tile) → AreRenewed grid after x first second → (x ≢ y → AreRenewed grid after y second third) → (x ≡ y → third ≡ second) →
-    (tile : ℕ) → tile < 12 → IsRight grid after third.tiles tile
-all_right_at grid before after event x y first second third is_grid state x-is y-is were once other same tile within =
+    ((list : ℕ) → list < 20 → IsRight grid before first.lists list) → AreRenewed grid after x first second → (x ≢ y → AreRenewed grid after y second third) → (x ≡ y → third ≡ second) →
+    (list : ℕ) → list < 20 → IsRight grid after third.lists list
+all_right_at grid before after event x y first second third is_grid state x-is y-is were once other same list within =
     let again : AreRenewed grid after y second third = elim (cases_eq x y) [
       | inl is ↦ subst (λ (t : ℕ). AreRenewed grid after t second third) is (renewed_again grid after x first second third (same is) once)
       | inr apart ↦ other apart
     ] in
     let once_then = subst (λ (s : State). AreRenewed grid s (touched grid event).0 first second) state (subst (λ (t : ℕ). AreRenewed grid after t first second) x-is once) in
     let again_then = subst (λ (s : State). AreRenewed grid s (touched grid event).1 second third) state (subst (λ (t : ℕ). AreRenewed grid after t second third) y-is again) in
-    subst (λ (s : State). IsRight grid s third.tiles tile) (sym state) (all_right grid before event first second third is_grid were once_then again_then tile within)
+    subst (λ (s : State). IsRight grid s third.lists list) (sym state) (all_right grid before event first second third is_grid were once_then again_then list within)
 
 -- a tile that is next to one of the grid is on it too
 within_twelve : (shape : Shape) (tile next : ℕ) (dir : Dir) → shape.columns ≡ 4 → shape.rows ≡ 3 → tile < 12 → neighbour_of shape tile dir ≡ Some next → next < 12

@@ -26,3 +26,4 @@ pub mod Returning
 pub mod PuzzlePorts
 pub mod Holding
 mod Writing
+pub mod Renewed

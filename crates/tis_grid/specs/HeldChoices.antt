@@ -1,5 +1,5 @@
 -- What can happen next, as the program holds it.
-use Rattle.std.specs.Prelude.{◌≡◌, ◌⊎◌, ℕ, ◌<◌, false, List, [], ◌∷◌, ◌++◌, length, flat_map, get_or, Option, Some, None}
+use Rattle.std.specs.Prelude.{◌≡◌, ◌⊎◌, ℕ, ◌-◌, ◌<◌, ◌≤◌, false, List, [], ◌∷◌, length, flat_map, get_or, Option, Some, None, nat_lt, if◌then◌else◌}
 use Rattle.tis_base.specs.Tiles.{opposite}
 use Rattle.tis_grid.specs.declared.event.Event.{Event}
 use Rattle.tis_base.specs.declared.tiles.Dir.{Dir}
@@ -10,28 +10,27 @@ use Rattle.tis_grid.specs.declared.choices.Choices.{Choices}
 use Rattle.tis_grid.specs.State.{Grid, State}
 use Rattle.tis_grid.specs.Choices.{events_at, those_enabled}
 
--- all of them, one tile after the other and then the ports
+-- all of them, one list after the other
 abbrev pub listed : Choices → List Event
-listed choices = flat_map (λ events. events.items) choices.tiles ++ choices.ports.items
+listed choices = flat_map (λ events. events.items) choices.lists
 
 -- an event, where there is one, as a list
 abbrev pub event_of : Option Event → List Event
 event_of None = []
 event_of (Some event) = event ∷ []
 
--- the events of the inputs and then of the outputs of four columns
-abbrev pub port_list : List Event
-port_list = In 0 ∷ In 1 ∷ In 2 ∷ In 3 ∷ Out 0 ∷ Out 1 ∷ Out 2 ∷ Out 3 ∷ []
+-- the events of a list: of a tile, then of an input, then of an output
+abbrev pub events_in : ℕ → List Event
+events_in list = if nat_lt list 12 then events_at list else (if nat_lt list 16 then In (list - 12) ∷ [] else Out (list - 16) ∷ [])
 
--- the list of a tile has its events that are enabled
+-- a list has those of its events that are enabled
 abbrev pub IsRight : Grid → State → List (ArrayVec Event) → ℕ → Type 0
-IsRight grid state tiles tile = (get_or tiles tile (record { items = [] })).items ≡ those_enabled grid state (events_at tile)
+IsRight grid state lists list = (get_or lists list (record { items = [] })).items ≡ those_enabled grid state (events_in list)
 
--- so has the list of each tile, and the last one has those of the ports
+-- so has each
 pub record AreChoices (grid : Grid) (state : State) (choices : Choices) : Type 0 where
-  pub len : length choices.tiles ≡ 12
-  pub tiles : (tile : ℕ) → tile < 12 → IsRight grid state choices.tiles tile
-  pub ports : choices.ports.items ≡ those_enabled grid state port_list
+  pub len : length choices.lists ≡ 20
+  pub right : (list : ℕ) → list < 20 → IsRight grid state choices.lists list
 
 -- the tiles that an event changes: the second one is the same as the first, where there is no other
 abbrev pub touched : Grid → Event → ℕ × ℕ
@@ -55,9 +54,14 @@ IsPlaced grid (Pop tile dir) = tile.number < length grid.puzzle.tiles.kinds
 abbrev pub IsApart : Grid → State → ℕ → ℕ → Dir → Type 0
 IsApart grid state tile next dir = (is_giving grid state next (opposite dir) ≡ false) × (is_memory_at grid tile ≡ false)
 
--- the list of a tile was made anew, and so were those of the tiles next to it that can do something with it; no list that was right is wrong now
+-- the tile at which the event of a port happens
+abbrev pub tile_at : ℕ → ℕ
+tile_at list = if nat_lt list 16 then list - 12 else list - 8
+
+-- the list of a tile was made anew, and so were those of its ports and those of the tiles next to it that can do something with it; no list that was right is wrong now
 pub record AreRenewed (grid : Grid) (state : State) (tile : ℕ) (old new : Choices) : Type 0 where
-  pub len : length new.tiles ≡ 12
-  pub here : IsRight grid state new.tiles tile
-  pub around : (dir : Dir) (next : ℕ) → next_tile grid tile dir ≡ Some next → IsRight grid state new.tiles next ⊎ IsApart grid state tile next dir
-  pub others : (other : ℕ) → IsRight grid state old.tiles other → IsRight grid state new.tiles other
+  pub len : length new.lists ≡ 20
+  pub here : IsRight grid state new.lists tile
+  pub ports : (list : ℕ) → 12 ≤ list → list < 20 → tile_at list ≡ tile → IsRight grid state new.lists list
+  pub around : (dir : Dir) (next : ℕ) → next_tile grid tile dir ≡ Some next → IsRight grid state new.lists next ⊎ IsApart grid state tile next dir
+  pub others : (list : ℕ) → IsRight grid state old.lists list → IsRight grid state new.lists list

@@ -5,14 +5,14 @@ ghost use Rattle.tis_grid.specs.declared.event.Event.TheVariants as events;
 ghost use Rattle.tis_grid.specs.Events.{is_enabled, is_waiting, is_giving};
 ghost use Rattle.arrayvec.specs.ArrayVec.{array_vec_len};
 ghost use Rattle.tis_grid.specs.Choices.{events_towards, events_at, those_enabled, enabled_events};
-ghost use Rattle.tis_grid.specs.HeldChoices.{listed, port_list, event_of, AreChoices, AreRenewed, IsRight, touched};
+ghost use Rattle.tis_grid.specs.HeldChoices.{listed, event_of, events_in, AreChoices};
 ghost use Rattle.rand_pcg.specs.Pcg.{pcg32};
 ghost use Rattle.tis_grid.specs.Drawn.{choice_of, next_of};
 ghost use Rattle.tis_grid.specs.Orders.{Fits, IsAtRest};
 
 use crate::event::Event;
 use crate::grid::Grid;
-use crate::state::{COLUMNS, State, TILES};
+use crate::state::State;
 use arrayvec::ArrayVec;
 use rand_core::utils::NextWord;
 use rand_pcg::Lcg64Xsh32;
@@ -22,21 +22,33 @@ use tis_node::Intent;
 // How many events of a tile can happen at most: one in each direction.
 pub(crate) const WAYS: usize = 4;
 
-// How many events the inputs and the outputs have.
-pub(crate) const PORTS: usize = 8;
+// How many lists there are: one for each tile, then one for each input, and then one for each output.
+pub(crate) const LISTS: usize = 20;
 
-/// The events that can happen, by tile and then at the ports.
+// The lists of the inputs and of the outputs begin here.
+pub(crate) const INPUTS: u8 = 12;
+
+pub(crate) const OUTPUTS: u8 = 16;
+
+/// The events that can happen: those of each tile, of each input and of each output.
 #[derive(Debug, Drop)]
 pub(crate) struct Choices {
-    pub(crate) tiles: [ArrayVec<Event, WAYS>; TILES],
-    pub(crate) ports: ArrayVec<Event, PORTS>,
+    pub(crate) lists: [ArrayVec<Event, WAYS>; LISTS],
 }
 
-// No event, for each tile. They are written out, since a list isn't `Copy`.
-fn no_events() -> [ArrayVec<Event, WAYS>; TILES]
-    ensures { length result ≡ 12 }
+// No event, in each list. They are written out, since a list isn't `Copy`.
+fn no_events() -> [ArrayVec<Event, WAYS>; LISTS]
+    ensures { length result ≡ 20 }
 {
     [
+        ArrayVec::new(),
+        ArrayVec::new(),
+        ArrayVec::new(),
+        ArrayVec::new(),
+        ArrayVec::new(),
+        ArrayVec::new(),
+        ArrayVec::new(),
+        ArrayVec::new(),
         ArrayVec::new(),
         ArrayVec::new(),
         ArrayVec::new(),
@@ -55,36 +67,36 @@ fn no_events() -> [ArrayVec<Event, WAYS>; TILES]
 impl Choices {
     // How many events can happen.
     pub(crate) fn count(&self) -> usize
-        requires { length self.now.tiles ≡ 12 }
+        requires { length self.now.lists ≡ 20 }
         ensures count { result ≡ length (listed self.now) }
         ensures few { result < 2 ^ 16 }
     {
         let mut count = 0;
-        for events in &self.tiles {
+        for events in &self.lists {
             count += events.len();
         }
-        count + self.ports.len()
+        count
     }
 
     // The event with an index.
     pub(crate) fn at(&self, index: usize) -> Event
-        requires len { length self.now.tiles ≡ 12 }
+        requires len { length self.now.lists ≡ 20 }
         requires within { index < length (listed self.now) }
         ensures { slice_get (listed self.now) index ≡ Some result }
     {
         let mut left = index;
-        for events in &self.tiles {
+        for events in &self.lists {
             if left < events.len() {
                 return events[left];
             }
             left -= events.len();
         }
-        self.ports[left]
+        unreachable!()
     }
 
     // The event that the generator's next word chooses, where one can happen. Where none can, no word is drawn.
     pub(crate) fn draw(&self, generator: &mut Lcg64Xsh32) -> Option<Event>
-        requires { length self.now.tiles ≡ 12 }
+        requires { length self.now.lists ≡ 20 }
         ensures event { result ≡ next_of (listed self.now) (pcg32 generator.old).0 }
         ensures word { IsSome result → generator.new ≡ (pcg32 generator.old).1 }
     {
@@ -109,24 +121,6 @@ fn put<const MOST: usize>(events: &mut ArrayVec<Event, MOST>, event: Option<Even
 }
 
 impl Grid {
-    // Puts an event behind the others of a list, where it can happen.
-    #[inline(always)]
-    fn list<const MOST: usize>(
-        &self,
-        state: &State,
-        event: Event,
-        events: &mut ArrayVec<Event, MOST>,
-    )
-        requires fits { Fits self.now state.now.state }
-        requires room { array_vec_len events.old < MOST }
-        ensures listed { events.new.items ≡ events.old.items ++ those_enabled self.now state.now.state (event ∷ []) }
-        ensures len { array_vec_len events.new ≤ array_vec_len events.old + 1 }
-    {
-        if self.enabled(state, event) {
-            events.push(event);
-        }
-    }
-
     // What a tile that waits for a value from a direction can do there: it pops, where a stack has a value.
     #[inline(always)]
     fn pulled(&self, state: &State, tile: Tile, dir: Dir) -> Option<Event>
@@ -226,21 +220,47 @@ impl Grid {
         }
     }
 
-    // What can happen at the ports.
-    pub(crate) fn port_events(&self, state: &State) -> ArrayVec<Event, PORTS>
+    // What an input can do.
+    #[inline(always)]
+    pub(crate) fn input_events(&self, state: &State, position: u8) -> ArrayVec<Event, WAYS>
         requires { Fits self.now state.now.state }
-        ensures { result.items ≡ those_enabled self.now state.now.state port_list }
+        ensures { result.items ≡ those_enabled self.now state.now.state (events.In position ∷ []) }
     {
-        let mut events = ArrayVec::new();
-        self.list(state, Event::In(0), &mut events);
-        self.list(state, Event::In(1), &mut events);
-        self.list(state, Event::In(2), &mut events);
-        self.list(state, Event::In(3), &mut events);
-        self.list(state, Event::Out(0), &mut events);
-        self.list(state, Event::Out(1), &mut events);
-        self.list(state, Event::Out(2), &mut events);
-        self.list(state, Event::Out(3), &mut events);
-        events
+        if self.can_take(state, position) {
+            Grid::alone(Some(Event::In(position)))
+        } else {
+            Grid::alone(None)
+        }
+    }
+
+    // What an output can do.
+    #[inline(always)]
+    pub(crate) fn output_events(&self, state: &State, position: u8) -> ArrayVec<Event, WAYS>
+        requires { Fits self.now state.now.state }
+        ensures { result.items ≡ those_enabled self.now state.now.state (events.Out position ∷ []) }
+    {
+        if self.can_give(state, position) {
+            Grid::alone(Some(Event::Out(position)))
+        } else {
+            Grid::alone(None)
+        }
+    }
+
+    // What can happen of a list.
+    fn list_events(&self, state: &State, list: u8) -> ArrayVec<Event, WAYS>
+        requires fits { Fits self.now state.now.state }
+        requires within { list < 20 }
+        ensures { result.items ≡ those_enabled self.now state.now.state (events_in list) }
+    {
+        // The call tells the proof that this is a grid.
+        self.puzzle();
+        if list < INPUTS {
+            self.tile_events(state, Tile { number: list })
+        } else if list < OUTPUTS {
+            self.input_events(state, list - INPUTS)
+        } else {
+            self.output_events(state, list - OUTPUTS)
+        }
     }
 
     // What can happen next.
@@ -251,19 +271,11 @@ impl Grid {
     {
         // The call tells the proof that this is a grid.
         self.puzzle();
-        let mut tiles = no_events();
-        for number in 0..TILES {
-            tiles[number] = self.tile_events(
-                state,
-                Tile {
-                    number: number as u8,
-                },
-            );
+        let mut lists = no_events();
+        for list in 0..LISTS {
+            lists[list] = self.list_events(state, list as u8);
         }
-        Choices {
-            tiles,
-            ports: self.port_events(state),
-        }
+        Choices { lists }
     }
 
     /// Whether no event can happen.

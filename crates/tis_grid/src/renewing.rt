@@ -1,18 +1,23 @@
 //! What can happen next, kept from one event to the next.
 //!
-//! After an event only the lists of the tiles that it changed, of those next to them that can do something with them
-//! and of the ports are made anew. So an event takes a time that doesn't grow with what lies elsewhere on the grid.
-ghost use Rattle.std.specs.Prelude.{◌≡◌, ◌≢◌, ◌⊎◌, ◌<◌, ℕ, IsTrue, length, Some};
+//! After an event only the lists of the tiles that it changed, of their ports and of those next to them that can do something with
+//! them are made anew. So an event takes a time that doesn't grow with what lies elsewhere on the grid.
+ghost use Rattle.std.specs.Prelude.{◌≡◌, ◌≢◌, ◌⊎◌, ◌<◌, ◌≤◌, ℕ, IsTrue, length, Some};
 ghost use Rattle.tis_grid.specs.Events.{IsEnabled, after_event, next_tile};
-ghost use Rattle.tis_grid.specs.HeldChoices.{AreChoices, AreRenewed, IsApart, IsRight, IsPlaced, touched};
+ghost use Rattle.tis_grid.specs.HeldChoices.{AreChoices, AreRenewed, IsApart, IsRight, IsPlaced, tile_at, touched};
 ghost use Rattle.tis_grid.specs.HeldState.{HasRoom};
 ghost use Rattle.tis_grid.specs.Orders.{Fits};
 
-use crate::choices::Choices;
+use crate::choices::{Choices, INPUTS, OUTPUTS};
 use crate::event::Event;
 use crate::grid::Grid;
 use crate::state::State;
 use tis_base::{Dir, Tile};
+
+// The tiles of the top row are those below this one, and those of the bottom row begin with this one.
+const TOP: u8 = 4;
+
+const BOTTOM: u8 = 8;
 
 impl Grid {
     // The tiles that an event changes.
@@ -40,14 +45,31 @@ impl Grid {
     // Makes the list of a tile anew.
     fn renew(&self, state: &State, choices: &mut Choices, tile: Tile)
         requires fits { Fits self.now state.now.state }
-        requires len { length choices.old.tiles ≡ 12 }
+        requires len { length choices.old.lists ≡ 20 }
         requires within { tile.number < 12 }
         requires there { tile.number < length self.now.puzzle.tiles.kinds }
-        ensures len { length choices.new.tiles ≡ 12 }
-        ensures here { IsRight self.now state.now.state choices.new.tiles tile.number }
-        ensures others { (other : ℕ) → IsRight self.now state.now.state choices.old.tiles other → IsRight self.now state.now.state choices.new.tiles other }
+        ensures len { length choices.new.lists ≡ 20 }
+        ensures here { IsRight self.now state.now.state choices.new.lists tile.number }
+        ensures others { (other : ℕ) → IsRight self.now state.now.state choices.old.lists other → IsRight self.now state.now.state choices.new.lists other }
     {
-        choices.tiles[tile.number as usize] = self.tile_events(state, tile);
+        choices.lists[tile.number as usize] = self.tile_events(state, tile);
+    }
+
+    // Makes the lists of the ports of a tile anew: of the input above it, or of the output below it.
+    fn renew_ports(&self, state: &State, choices: &mut Choices, tile: Tile)
+        requires fits { Fits self.now state.now.state }
+        requires len { length choices.old.lists ≡ 20 }
+        requires within { tile.number < 12 }
+        ensures len { length choices.new.lists ≡ 20 }
+        ensures ports { (list : ℕ) → 12 ≤ list → list < 20 → tile_at list ≡ tile.number → IsRight self.now state.now.state choices.new.lists list }
+        ensures others { (other : ℕ) → IsRight self.now state.now.state choices.old.lists other → IsRight self.now state.now.state choices.new.lists other }
+    {
+        if tile.number < TOP {
+            choices.lists[(tile.number + INPUTS) as usize] = self.input_events(state, tile.number);
+        } else if tile.number >= BOTTOM {
+            let position = tile.number - BOTTOM;
+            choices.lists[(position + OUTPUTS) as usize] = self.output_events(state, position);
+        }
     }
 
     // Whether a tile can do something with the one that it is next to, whose node or stack has changed: it gives a
@@ -67,11 +89,11 @@ impl Grid {
     #[inline]
     fn renew_next(&self, state: &State, choices: &mut Choices, tile: Tile, dir: Dir)
         requires fits { Fits self.now state.now.state }
-        requires len { length choices.old.tiles ≡ 12 }
+        requires len { length choices.old.lists ≡ 20 }
         requires within { tile.number < length self.now.puzzle.tiles.kinds }
-        ensures len { length choices.new.tiles ≡ 12 }
-        ensures here { (next : ℕ) → next_tile self.now tile.number dir ≡ Some next → IsRight self.now state.now.state choices.new.tiles next ⊎ IsApart self.now state.now.state tile.number next dir }
-        ensures others { (other : ℕ) → IsRight self.now state.now.state choices.old.tiles other → IsRight self.now state.now.state choices.new.tiles other }
+        ensures len { length choices.new.lists ≡ 20 }
+        ensures here { (next : ℕ) → next_tile self.now tile.number dir ≡ Some next → IsRight self.now state.now.state choices.new.lists next ⊎ IsApart self.now state.now.state tile.number next dir }
+        ensures others { (other : ℕ) → IsRight self.now state.now.state choices.old.lists other → IsRight self.now state.now.state choices.new.lists other }
     {
         // The call tells the proof how many tiles there are.
         self.puzzle();
@@ -85,13 +107,14 @@ impl Grid {
     // Makes the list of a tile anew, and those of the tiles next to it that can do something with it.
     fn renew_around(&self, state: &State, choices: &mut Choices, tile: Tile)
         requires fits { Fits self.now state.now.state }
-        requires len { length choices.old.tiles ≡ 12 }
+        requires len { length choices.old.lists ≡ 20 }
         requires within { tile.number < length self.now.puzzle.tiles.kinds }
         ensures { AreRenewed self.now state.now.state tile.number choices.old choices.new }
     {
         // The call tells the proof how many tiles there are.
         self.puzzle();
         self.renew(state, choices, tile);
+        self.renew_ports(state, choices, tile);
         self.renew_next(state, choices, tile, Dir::Left);
         self.renew_next(state, choices, tile, Dir::Right);
         self.renew_next(state, choices, tile, Dir::Up);
@@ -102,9 +125,9 @@ impl Grid {
     #[inline]
     fn renew_second(&self, state: &State, choices: &mut Choices, first: Tile, second: Tile)
         requires fits { Fits self.now state.now.state }
-        requires len { length choices.old.tiles ≡ 12 }
+        requires len { length choices.old.lists ≡ 20 }
         requires within { second.number < length self.now.puzzle.tiles.kinds }
-        ensures len { length choices.new.tiles ≡ 12 }
+        ensures len { length choices.new.lists ≡ 20 }
         ensures renewed { first.number ≢ second.number → AreRenewed self.now state.now.state second.number choices.old choices.new }
         ensures same { first.number ≡ second.number → choices.new ≡ choices.old }
     {
@@ -129,6 +152,5 @@ impl Grid {
         self.apply(state, event);
         self.renew_around(state, choices, first);
         self.renew_second(state, choices, first, second);
-        choices.ports = self.port_events(state);
     }
 }

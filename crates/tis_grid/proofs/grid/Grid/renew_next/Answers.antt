@@ -9,4 +9,4 @@ pub renew-requires-clause-within : goal.renew-requires-clause-within
 renew-requires-clause-within c = omega (arith, twelve_tiles c.args.self.now c.puzzle.ensures.grid, c.in-Some.ensures.there)
 
 pub returns-then-is_concerned-clause-here : goal.returns-then-is_concerned-clause-here
-returns-then-is_concerned-clause-here c = λ next is. inl (subst (λ (t : ℕ). IsRight c.args.self.now c.args.state.now.state c.renew.new.choices.tiles t) (is_the_next c.next.result c.in-Some.next next _ c.next.ensures.next c.in-Some.is is) c.renew.ensures.here)
+returns-then-is_concerned-clause-here c = λ next is. inl (subst (λ (t : ℕ). IsRight c.args.self.now c.args.state.now.state c.renew.new.choices.lists t) (is_the_next c.next.result c.in-Some.next next _ c.next.ensures.next c.in-Some.is is) c.renew.ensures.here)
