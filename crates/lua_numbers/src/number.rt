@@ -42,6 +42,20 @@ impl LuaNumber {
         }
     }
 
+    /// 0.
+    pub fn zero() -> LuaNumber
+        ensures { result ≡ pos 0 }
+    {
+        LuaNumber { number: 0 }
+    }
+
+    /// 1.
+    pub fn one() -> LuaNumber
+        ensures { result ≡ pos 1 }
+    {
+        LuaNumber { number: 1 }
+    }
+
     /// The number.
     pub fn get(self) -> i64
         ensures number { result ≡ self }

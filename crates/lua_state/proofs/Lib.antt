@@ -7,3 +7,4 @@ pub mod Made
 pub mod Naming
 pub mod Assigning
 pub mod Binding
+pub mod Opening

@@ -4,3 +4,4 @@ pub mod Store
 pub mod Operations
 pub mod Calls
 pub mod Held
+pub mod Loops

@@ -1,6 +1,6 @@
 -- What an evaluation stands on, with what waits beside its frames.
-use Rattle.std.specs.Prelude.{◌≡◌, ℕ, pos, codes, List, [], ◌∷◌, take, drop, reverse, Result, Ok, Err}
-use Rattle.lua_machine.specs.Value.{LuaValue, Nil, Number, Fault}
+use Rattle.std.specs.Prelude.{◌≡◌, ℕ, pos, codes, List, [], ◌∷◌, take, drop, reverse, if◌then◌else◌, Result, Ok, Err}
+use Rattle.lua_machine.specs.Value.{LuaValue, Nil, Number, Fault, is_key}
 use Rattle.lua_machine.specs.Value as lua
 use Rattle.lua_machine.specs.State.{State, Variables, Done, assigned, fresh}
 use Rattle.lua_machine.specs.declared.error.LuaError.{LuaError}
@@ -88,6 +88,11 @@ with_ended (Err why) store = Err why
 -- a value was stored at a key of a table
 abbrev pub storing : ℕ → LuaValue → LuaValue → Store → Store
 storing at key value store = in_state (record store.state { tables = stored store.state.tables at key value }) store
+
+-- an entry with a key, if it is one, goes into a table
+abbrev pub with_entry : ℕ → ℕ → List LuaValue → Store → Result Store Fault
+with_entry at line (key ∷ value ∷ []) store = if is_key key then Ok (storing at key value store) else Err (lua.TypeFault line)
+with_entry at line _ store = Err (lua.TypeFault line)
 
 -- how a call begins
 abbrev pub starting : ℕ → Store

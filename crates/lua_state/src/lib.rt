@@ -17,12 +17,13 @@
 //! number of variables in scope. A new text takes memory, and so does a value that is put, now and then; no call copies a table
 //! or a list of variables.
 //!
-//! What is still missing: the bounds of loops, the libraries, and entries of a constructor with a key. Units are for the caller.
+//! What is still missing: the libraries. Units are for the caller.
 #![tactic(auto)]
 
 mod bounds;
 mod calls;
 mod held;
+mod loops;
 mod making;
 mod names;
 mod operators;
