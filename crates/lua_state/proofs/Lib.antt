@@ -7,3 +7,4 @@ pub mod Naming
 pub mod Assigning
 pub mod Binding
 pub mod Opening
+pub mod Gathering
