@@ -42,6 +42,15 @@ impl LuaNumber {
         }
     }
 
+    /// A number as small as this.
+    pub fn small(value: u8) -> LuaNumber
+        ensures { result ≡ pos value }
+    {
+        LuaNumber {
+            number: value as i64,
+        }
+    }
+
     /// The number.
     pub fn get(self) -> i64
         ensures number { result ≡ self }

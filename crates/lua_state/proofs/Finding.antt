@@ -44,13 +44,6 @@ hit name x more e = ap (λ b. cond b (Some x.value) (value_under name more)) e
 hit_with : (name : ℕ) (value : SmallValue) (x : Variable) (more : List Variable) → (x.name == name) ≡ true → with_value name value (x ∷ more) ≡ record { name = name; value = value } ∷ more
 hit_with name value x more e = ap (λ b. cond b (record { name = name; value = value } ∷ more) (x ∷ with_value name value more)) e
 
-first_at : (name : ℕ) (before : List Variable) (x : Variable) (behind : List Variable) → value_under name before ≡ None → (x.name == name) ≡ true → FoundIn (λ all. all) name (before ++ x ∷ behind) (Some (length before))
-first_at name before x behind none e = (
-  omega (arith, length-append before (x ∷ behind)),
-  λ other. passed name before (x ∷ behind) none ∙ hit name x behind e ∙ sym (ap (λ (v : Variable). Some v.value) (got_seam before x other behind)),
-  λ value. kept name value before (x ∷ behind) none ∙ ap (λ more. before ++ more) (hit_with name value x behind e) ∙ sym (set-append_seam before x behind (record { name = name; value = value })),
-)
-
 last_at : (name : ℕ) (before : List Variable) (x : Variable) (behind : List Variable) → value_under name (reverse behind) ≡ None → (x.name == name) ≡ true → FoundIn reverse name (before ++ x ∷ behind) (Some (length before))
 last_at name before x behind none e = (
   omega (arith, length-append before (x ∷ behind)),
@@ -65,17 +58,7 @@ module _ (order : List Variable → List Variable) (name : ℕ) (all : List Vari
       let same : FoundIn order name all (Some (length (take at all))) = subst (λ vs. FoundIn order name vs (Some (length (take at all)))) (sym (parted all at other inside)) found in
       subst (λ n. FoundIn order name all (Some n)) (length-take-le at all (omega arith)) same
 
--- where a loop from the first one stops
-pub first_found : (name : ℕ) (all : List Variable) (at : ℕ) (other : Variable) → at < length all → value_under name (take at all) ≡ None → (get_or all at other).name ≡ name → FoundIn (λ all. all) name all (Some at)
-first_found name all at other inside none e = moved (λ all. all) name all at other inside (first_at name (take at all) (get_or all at other) (drop (suc at) all) none ((Decides-eqb _ _).1 e))
-
-pub first_goes_on : (name : ℕ) (all : List Variable) (at : ℕ) (other : Variable) → at < length all → value_under name (take at all) ≡ None → ((get_or all at other).name ≡ name → ⊥) → value_under name (take (at + 1) all) ≡ None
-first_goes_on name all at other inside none e =
-    let more : at + 1 ≡ suc at = omega arith in
-    ap (λ n. value_under name (take n all)) more ∙ ap (value_under name) (take-suc all at other inside) ∙ passed name (take at all) (get_or all at other ∷ []) none
-    ∙ ap (λ b. cond b (Some (get_or all at other).value) None) (isnt _ (λ d. e ((Decides-eqb _ _).0 d)))
-
--- and one from the last one
+-- where a loop from the last one stops
 pub last_found : (name : ℕ) (all : List Variable) (at : ℕ) (other : Variable) → at < length all → value_under name (reverse (drop (suc at) all)) ≡ None → (get_or all at other).name ≡ name → FoundIn reverse name all (Some at)
 last_found name all at other inside none e = moved reverse name all at other inside (last_at name (take at all) (get_or all at other) (drop (suc at) all) none ((Decides-eqb _ _).1 e))
 
@@ -83,11 +66,6 @@ pub last_goes_on : (name : ℕ) (all : List Variable) (at : ℕ) (other : Variab
 last_goes_on name all at other inside none e =
     ap (λ vs. value_under name (reverse vs)) (drop-cons all at other inside) ∙ ap (value_under name) (reverse-append (get_or all at other ∷ []) (drop (suc at) all))
     ∙ passed name (reverse (drop (suc at) all)) (get_or all at other ∷ []) none ∙ ap (λ b. cond b (Some (get_or all at other).value) None) (isnt _ (λ d. e ((Decides-eqb _ _).0 d)))
-
-pub none_first : (name : ℕ) (all : List Variable) (at : ℕ) → length all ≤ at → value_under name (take at all) ≡ None → FoundIn (λ all. all) name all None
-none_first name all at past none =
-    let none_of_all : value_under name all ≡ None = ap (value_under name) (sym (take_all at all past)) ∙ none in
-    (none_of_all, none_here name all none_of_all)
 
 pub none_last : (name : ℕ) (all : List Variable) (at : ℕ) → at ≤ 0 → value_under name (reverse (drop at all)) ≡ None → FoundIn reverse name all None
 none_last name all at start none =

@@ -72,7 +72,7 @@ impl HeldState {
     }
 
     // Takes so many of the newest values.
-    fn drop_parts(&mut self, count: usize)
+    pub(crate) fn drop_parts(&mut self, count: usize)
         requires { IsSound self.old }
         ensures dropped { store_of self.new ≡ without count (store_of self.old) }
         ensures sound { IsSound self.new }

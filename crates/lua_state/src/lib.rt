@@ -13,19 +13,19 @@
 //! state.assign(alloc, b"a")?;
 //! ```
 //!
-//! A name is looked up by a hash of its bytes, and then among the variables from the innermost on, so a look-up takes time with the
-//! number of variables in scope. A new text takes memory, and so does a value that is put, now and then; no call copies a table
+//! A name is looked up by a hash of its bytes, then among the locals of the function from the innermost on, and then among the globals
+//! by a hash, so a look-up takes time with the number of locals in scope. A new text takes memory, and so does a value that is put, now and then; no call copies a table
 //! or a list of variables.
 //!
-//! What is still missing: the bounds of loops, the libraries, and entries of a constructor with a key. Units are for the caller.
+//! Units are for the caller.
 #![tactic(auto)]
 
 mod bounds;
 mod calls;
 mod held;
+mod loops;
 mod making;
 mod names;
-mod operators;
 mod stack;
 mod starting;
 mod state;

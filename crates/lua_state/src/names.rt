@@ -1,18 +1,30 @@
 //! Variables by their names.
-ghost use Rattle.std.specs.Prelude.{◌≡◌, ◌<◌, ◌-◌, [], drop, get_or, length, OnOk};
+ghost use Rattle.std.specs.Prelude.{◌≡◌, ◌<◌, ◌-◌, [], drop, get_or, length, map, OnOk};
 ghost use Rattle.lua_machine.specs.Value.{Nil, is_true};
+ghost use Rattle.lua_machine.specs.Operators.{decides};
 ghost use Rattle.lua_machine.specs.State.{assigned, declared, value_of};
 ghost use Rattle.lua_machine.specs.Turn.{cut_to};
-ghost use Rattle.lua_store.specs.Values.{IsHeld, meant};
+ghost use Rattle.lua_store.specs.Values.{IsHeld, Texts, meant};
 ghost use Rattle.lua_state.specs.Held.{IsSound, state_of, store_of};
 ghost use Rattle.lua_state.specs.Store.{in_state, newest, popped, pushed};
 
 use crate::held::HeldState;
-use crate::operators::is_true;
 use crate::variables::Variable;
+use lua_operations::is_true;
 use lua_store::SmallValue;
+use lua_tree::BinaryOp;
 use std::alloc::Global;
 use tis_base::NoMemory;
+
+// Whether the first part counts as true.
+fn truth_of_parts(values: &[SmallValue]) -> bool
+    ensures { (texts : Texts) → result ≡ is_true (newest (map (meant texts) values.now)) }
+{
+    match values {
+        [] => false,
+        [value, ..] => is_true(*value),
+    }
+}
 
 impl HeldState {
     // The value of the name at a place among the texts.
@@ -134,5 +146,23 @@ impl HeldState {
     {
         let value = self.take();
         is_true(value)
+    }
+
+    /// Whether the newest value counts as true. It stays.
+    pub(crate) fn is_true(&self) -> bool
+        ensures { result ≡ is_true (newest (store_of self.now).values) }
+    {
+        truth_of_parts(self.values.top(1))
+    }
+
+    /// Whether the newest value, as the left side of `and` or `or`, decides. It stays.
+    pub(crate) fn decides(&self, op: BinaryOp) -> bool
+        ensures { result ≡ decides op (newest (store_of self.now).values) }
+    {
+        match op {
+            BinaryOp::And => !self.is_true(),
+            BinaryOp::Or => self.is_true(),
+            _ => false,
+        }
     }
 }

@@ -2,18 +2,22 @@
 ghost use Rattle.std.specs.Prelude.{◌≡◌, [], ◌∷◌, ◌++◌, length, pos, IfOk, OnOk};
 ghost use Rattle.lua_machine.specs.Value.{Nil, Number, Table, Truth, is_true};
 ghost use Rattle.lua_machine.specs.Value as lua;
-ghost use Rattle.lua_machine.specs.Operators.{text};
+ghost use Rattle.lua_machine.specs.Library.{math_result, table_result};
+ghost use Rattle.lua_machine.specs.Operators.{decides, text};
 ghost use Rattle.lua_machine.specs.State.{assigned, declared, value_of};
 ghost use Rattle.lua_machine.specs.Tables.{no_keys};
 ghost use Rattle.lua_machine.specs.Turn.{cut_to};
-ghost use Rattle.lua_machine.specs.Yields.{binary_result, floor_result, indexed, put, put_member, unary_result, with_member};
+ghost use Rattle.lua_machine.specs.Yields.{binary_result, bounds_of, comes, floor_result, indexed, next_turn, put, put_member, unary_result, with_member};
+ghost use Rattle.lua_operations.specs.Functions.{math_in, table_in};
 ghost use Rattle.lua_state.specs.Calls.{called, left};
 ghost use Rattle.lua_state.specs.Held.{state_of, store_of};
-ghost use Rattle.lua_state.specs.Store.{Answers, ended, in_state, newest, parts, popped, pushed, starting, storing, with_done, with_ended, with_made, without};
+ghost use Rattle.lua_state.specs.Loops.{closed, newest_bounds, turning, with_opened};
+ghost use Rattle.lua_state.specs.Store.{Answers, ended, in_state, newest, parts, popped, pushed, starting, storing, with_done, with_ended, with_entry, with_made, without};
 
 use crate::held::HeldState;
 use lua_machine::LuaError;
 use lua_numbers::LuaNumber;
+use lua_operations::{MathFunction, TableFunction};
 use lua_tree::{BinaryOp, Text, UnaryOp};
 use std::alloc::Global;
 use std::marker::Model;
@@ -102,6 +106,20 @@ impl LuaState {
         self.held.take_truth()
     }
 
+    /// Whether the newest value counts as true. It stays.
+    pub fn is_true(&self) -> bool
+        ensures { result ≡ is_true (newest (store_of self.now).values) }
+    {
+        self.held.is_true()
+    }
+
+    /// Whether the newest value, as the left side of `and` or `or`, decides. It stays.
+    pub fn decides(&self, op: BinaryOp) -> bool
+        ensures { result ≡ decides op (newest (store_of self.now).values) }
+    {
+        self.held.decides(op)
+    }
+
     /// How many locals there are.
     pub fn locals(&self) -> usize
         ensures { result ≡ length (state_of self.now).locals }
@@ -172,6 +190,30 @@ impl LuaState {
         self.held.floors(count, line)
     }
 
+    /// What a function of `math` makes of the newest so many values.
+    pub fn math(
+        &mut self,
+        count: usize,
+        function: MathFunction,
+        line: usize,
+    ) -> Result<(), LuaError>
+        ensures { Answers result (store_of self.new) (with_done (math_result (math_in function) line (parts count (store_of self.old)) (state_of self.old)) (without count (store_of self.old))) }
+    {
+        self.held.math(count, function, line)
+    }
+
+    /// What a function of `table` makes of the newest so many values.
+    pub fn table(
+        &mut self,
+        count: usize,
+        function: TableFunction,
+        line: usize,
+    ) -> Result<(), LuaError>
+        ensures { Answers result (store_of self.new) (with_done (table_result (table_in function) line (parts count (store_of self.old)) (state_of self.old)) (without count (store_of self.old))) }
+    {
+        self.held.table(count, function, line)
+    }
+
     /// The value at a key of a table; the newest so many values have to be both.
     pub fn index(&mut self, count: usize, line: usize) -> Result<(), LuaError>
         ensures { Answers result (store_of self.new) (with_done (indexed line (parts count (store_of self.old)) (state_of self.old)) (without count (store_of self.old))) }
@@ -200,6 +242,13 @@ impl LuaState {
         self.held.store_next(at, next)
     }
 
+    /// Stores a value at a key in a table; the newest so many values have to be both.
+    pub fn store_keyed(&mut self, at: usize, count: usize, line: usize) -> Result<(), LuaError>
+        ensures { Answers result (store_of self.new) (with_entry at line (parts count (store_of self.old)) (without count (store_of self.old))) }
+    {
+        self.held.store_keyed(at, count, line)
+    }
+
     /// The member of a name of the table that is the newest value; the newest so many have to be one.
     pub fn select(
         &mut self,
@@ -211,6 +260,36 @@ impl LuaState {
         ensures { Answers result (store_of self.new) (with_done (indexed line (with_member name.now (parts count (store_of self.old))) (state_of self.old)) (without count (store_of self.old))) }
     {
         self.held.select(alloc, count, name, line)
+    }
+
+    /// Opens a loop that counts; the newest so many values have to be its bounds.
+    pub fn open_loop(&mut self, count: usize, line: usize) -> Result<(), LuaError>
+        ensures { Answers result (store_of self.new) (with_opened (bounds_of line (parts count (store_of self.old))) (without count (store_of self.old))) }
+    {
+        self.held.open_loop(count, line)
+    }
+
+    /// The first turn of the innermost loop, where it comes: its number is a new local. Where none comes the loop is left.
+    pub fn begin_turn(&mut self, alloc: Global, name: &[u8]) -> Result<bool, NoMemory>
+        ensures comes { IfOk result (λ b. b ≡ comes (newest_bounds (store_of self.old).loops)) }
+        ensures turned { OnOk result (store_of self.new ≡ turning name.now (newest_bounds (store_of self.old).loops) (closed (store_of self.old))) }
+    {
+        self.held.begin_turn(alloc, name)
+    }
+
+    /// The next turn of the innermost loop, where it comes: its number is a new local. Where none comes the loop is left.
+    pub fn next_turn(&mut self, alloc: Global, name: &[u8]) -> Result<bool, NoMemory>
+        ensures comes { IfOk result (λ b. b ≡ comes (next_turn (newest_bounds (store_of self.old).loops))) }
+        ensures turned { OnOk result (store_of self.new ≡ turning name.now (next_turn (newest_bounds (store_of self.old).loops)) (closed (store_of self.old))) }
+    {
+        self.held.next_turn(alloc, name)
+    }
+
+    /// Leaves the innermost loop.
+    pub fn close_loop(&mut self)
+        ensures { store_of self.new ≡ closed (store_of self.old) }
+    {
+        self.held.close_loop();
     }
 
     /// Enters a function with the newest so many values as its arguments; a missing one is nil.

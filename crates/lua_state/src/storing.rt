@@ -1,7 +1,7 @@
 //! Values that go into tables.
 ghost use Rattle.std.specs.Prelude.{◌≡◌, ◌<◌, ◌^◌, [], ◌∷◌, get_or, length, map, pos, OnOk};
 ghost use Rattle.std.specs.List.{All};
-ghost use Rattle.lua_machine.specs.Value.{Number, Text};
+ghost use Rattle.lua_machine.specs.Value.{Number, Table, Text};
 ghost use Rattle.lua_machine.specs.State.{State};
 ghost use Rattle.lua_machine.specs.Yields.{put, put_member};
 ghost use Rattle.lua_store.specs.Rows.{AreHeld, tables_of};
@@ -61,6 +61,22 @@ fn put_member_of_parts(
 {
     match values {
         [table, value] => put_value(tables, line, *table, SmallValue::Text(name), *value),
+        _ => Err(LuaError::TypeFault { line }),
+    }
+}
+
+// Puts an entry with a key into a table.
+fn put_entry_of_parts(
+    tables: &mut LuaTables,
+    at: usize,
+    line: usize,
+    values: &[SmallValue],
+) -> Result<(), LuaError>
+    ensures put { (texts : Texts) (state : State) → AreApart texts → All (IsHeld texts) values.now → state.tables ≡ tables_of texts tables.old → Answers result (record state { tables = tables_of texts tables.new }) (ended (put line (Table at ∷ map (meant texts) values.now) state)) }
+    ensures held { (texts : Texts) → All (AreHeld texts) tables.old → All (IsHeld texts) values.now → All (AreHeld texts) tables.new }
+{
+    match values {
+        [key, value] => put_value(tables, line, SmallValue::Table(at), *key, *value),
         _ => Err(LuaError::TypeFault { line }),
     }
 }
@@ -126,6 +142,27 @@ impl HeldState {
     {
         let values = self.values.top(count);
         match put_of_parts(&mut self.tables, line, values) {
+            Ok(()) => {
+                self.values.drop_top(count);
+                Ok(())
+            }
+            Err(why) => Err(why),
+        }
+    }
+
+    /// Stores the newest value at the key before it in a table.
+    pub(crate) fn store_keyed(
+        &mut self,
+        at: usize,
+        count: usize,
+        line: usize,
+    ) -> Result<(), LuaError>
+        requires { IsSound self.old }
+        ensures put { Answers result (store_of self.new) (with_ended (ended (put line (Table at ∷ parts count (store_of self.old)) (state_of self.old))) (without count (store_of self.old))) }
+        ensures sound { IsSound self.new }
+    {
+        let values = self.values.top(count);
+        match put_entry_of_parts(&mut self.tables, at, line, values) {
             Ok(()) => {
                 self.values.drop_top(count);
                 Ok(())

@@ -4,6 +4,7 @@ ghost use Rattle.std.specs.Option.{is_some};
 ghost use Rattle.lua_state.specs.Variables.{FoundIn, value_under, with_global, with_value};
 
 use crate::stack::Stack;
+use indexmap::IndexMap;
 use lua_store::SmallValue;
 use std::alloc::Global;
 use std::marker::Model;
@@ -14,20 +15,6 @@ use tis_base::NoMemory;
 pub struct Variable {
     pub name: usize,
     pub value: SmallValue,
-}
-
-/// Where the first variable of a name stands.
-pub(crate) fn first_place(variables: &[Variable], name: usize) -> Option<usize>
-    ensures { FoundIn (λ all. all) name variables.now result }
-{
-    let mut at = 0;
-    while at < variables.len() {
-        if variables[at].name == name {
-            return Some(at);
-        }
-        at += 1;
-    }
-    None
 }
 
 /// Where the last variable of a name stands.
@@ -73,19 +60,20 @@ impl Stack<Variable> {
     }
 }
 
-/// Variables in the order in which they came.
+/// Variables in the order in which they came, each found by a hash.
 #[derive(Drop)]
 pub(crate) struct Globals {
-    variables: Vec<Variable>,
+    values: IndexMap<usize, SmallValue>,
 }
 
 impl Model for Globals {
-    ghost use Rattle.std.specs.Prelude.{List};
+    ghost use Rattle.std.specs.Prelude.{List, map};
+    ghost use Rattle.lua_state.specs.Variables.{global_of};
     ghost use Rattle.lua_state.specs.declared.variables.Variable.{Variable};
 
     ghost Value = { List Variable };
 
-    ghost view = { λ g. g.variables.items };
+    ghost view = { λ g. map global_of g.values.entries };
 }
 
 impl Globals {
@@ -93,7 +81,7 @@ impl Globals {
         ensures { result ≡ [] }
     {
         Globals {
-            variables: Vec::new(alloc),
+            values: IndexMap::new(alloc),
         }
     }
 
@@ -101,8 +89,8 @@ impl Globals {
     pub(crate) fn value(&self, name: usize) -> Option<SmallValue>
         ensures { result ≡ value_under name self.now }
     {
-        match first_place(self.variables.as_slice(), name) {
-            Some(at) => Some(self.variables[at].value),
+        match self.values.get(&name) {
+            Some(value) => Some(*value),
             None => None,
         }
     }
@@ -112,12 +100,7 @@ impl Globals {
         ensures assigned { OnOk result (self.new ≡ with_global name value self.old) }
         ensures unchanged { OnErr result (self.new ≡ self.old) }
     {
-        match first_place(self.variables.as_slice(), name) {
-            Some(at) => {
-                self.variables[at] = Variable { name, value };
-            }
-            None => self.variables.push(Variable { name, value })?,
-        }
+        self.values.insert(name, value)?;
         Ok(())
     }
 }
