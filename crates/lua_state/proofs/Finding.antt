@@ -1,9 +1,9 @@
 -- How a name is found among variables.
-use Rattle.std.proofs.Common.{◌≡◌, ℕ, suc, ◌+◌, ◌<◌, ◌≤◌, Bool, true, false, cond, List, [], ◌∷◌, ◌++◌, length, get_or, take, drop, reverse, refl, sym, ap, subst, ◌∙◌, arith, Some, None}
+use Rattle.std.proofs.Common.{◌≡◌, ℕ, suc, ◌<◌, ◌≤◌, Bool, true, false, cond, List, [], ◌∷◌, ◌++◌, length, get_or, take, drop, reverse, refl, sym, ap, subst, ◌∙◌, arith, Some, None}
 use Rattle.std.specs.Prelude.{◌==◌}
-use Rattle.std.proofs.lemmas.List.{length-take-le, reverse-append, length-append, append-nil, take_all}
+use Rattle.std.proofs.lemmas.List.{length-take-le, reverse-append, length-append, append-nil}
 use Rattle.std.proofs.lemmas.Bool.Decides.{Decides-eqb}
-use Rattle.std.proofs.Math.Seq.{set-append_seam, take-suc, drop-cons}
+use Rattle.std.proofs.Math.Seq.{set-append_seam, drop-cons}
 use Rattle.lua_store.specs.declared.value.SmallValue.{SmallValue}
 use Rattle.lua_state.specs.declared.variables.Variable.{Variable}
 use Rattle.lua_state.specs.Variables.{value_under, with_value, FoundIn}

@@ -1,10 +1,9 @@
 -- Entries with keys, and loops that are opened.
-use Rattle.std.proofs.Common.{◌≡◌, ℕ, Bool, true, false, cond, List, [], ◌∷◌, map, take, drop, reverse, refl, sym, ap, ◌∙◌, ℤ, Result, Ok, Err}
+use Rattle.std.proofs.Common.{◌≡◌, ℕ, Bool, true, false, cond, List, [], ◌∷◌, map, take, reverse, refl, sym, ap, ◌∙◌, ℤ, Result, Ok, Err}
 use Rattle.std.specs.Prelude.{nat_abs, nat_le}
 use Rattle.lua_machine.specs.Value.{LuaValue, Number, Table, Fault, OutOfRange, TypeFault, is_key}
 use Rattle.lua_machine.specs.Operators.{Answer, greatest, number}
 use Rattle.lua_machine.specs.Tables.{stored}
-use Rattle.lua_machine.specs.State.{State}
 use Rattle.lua_machine.specs.Yields.{Bounds, put, goes, stops}
 use Rattle.lua_machine.specs.declared.error.LuaError.{LuaError}
 use Rattle.lua_machine.specs.declared.error.LuaError.TheVariants as e

@@ -1,4 +1,4 @@
-use Rattle.std.proofs.Common.{Bool, false, ap, ◌+ℤ◌, pos, ℤ}
+use Rattle.std.proofs.Common.{Bool, ap, ◌+ℤ◌, pos, ℤ}
 use Rattle.std.specs.Prelude.{int_lt, int_le, ◌&&◌, if◌then◌else◌}
 use Rattle.lua_machine.specs.Yields.{Bounds}
 use Rattle.lua_state.proofs.Opening.{is_number, is_past}

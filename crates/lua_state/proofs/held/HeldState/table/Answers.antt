@@ -1,11 +1,9 @@
-use Rattle.std.proofs.Common.{◌≡◌, List, Ok}
-use Rattle.std.specs.List.{All}
+use Rattle.std.proofs.Common.{◌≡◌, Ok}
 use Rattle.lua_machine.specs.Library.{table_result}
 use Rattle.lua_machine.specs.State.{State}
 use Rattle.lua_operations.specs.Functions.{table_in}
 use Rattle.lua_operations.specs.Results.{Refuses}
-use Rattle.lua_store.specs.Rows.{AreHeld, tables_of}
-use Rattle.lua_store.specs.Values.{IsHeld}
+use Rattle.lua_store.specs.Rows.{tables_of}
 use Rattle.lua_state.specs.Held.{state_of, store_of}
 use Rattle.lua_state.specs.Store.{parts, with_done, without}
 use Rattle.lua_state.proofs.Made.{at_parts, made_with, not_made, parts_are_held}

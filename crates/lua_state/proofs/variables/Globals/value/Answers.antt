@@ -1,4 +1,4 @@
-use Rattle.std.proofs.Common.{List, sym, ap, ◌∙◌}
+use Rattle.std.proofs.Common.{List, ap, ◌∙◌}
 use Rattle.lua_state.specs.declared.variables.Variable.{Variable}
 use Rattle.lua_state.specs.Variables.{value_under}
 use Rattle.lua_state.proofs.Gathering.{looked_up}
