@@ -11,7 +11,8 @@ use Rattle.lua_frames.specs.declared.frame.Making.{Making}
 use Rattle.lua_frames.specs.declared.frame.Making.TheVariants as m
 use Rattle.lua_frames.specs.declared.frame.Frame.{Frame}
 use Rattle.lua_frames.specs.declared.frame.Frame.TheVariants as f
-use Rattle.lua_frames.specs.Parts.{nodes_in, entries_in, block_in, arms_in, function_in, math_in, table_in}
+use Rattle.lua_frames.specs.Parts.{nodes_in, entries_in, block_in, arms_in, function_in}
+use Rattle.lua_operations.specs.Functions.{math_in, table_in}
 
 -- what waits beside the frames: values, the locals of the calls around, and the bounds of the loops that are open, each innermost first
 pub record Waits : Type 0 where

@@ -9,14 +9,9 @@ use Rattle.lua_tree.specs.declared.tree.Arm.{Arm}
 use Rattle.lua_machine.specs.Tree as t
 use Rattle.lua_machine.specs.Tree.{Node, Nodes, none, ◌and◌, nodes, node_of, EntryNodes, entry_nodes, entry_node_of, BlockNode, statements, statement_of, block_of, ArmNodes, arms, arm_of, ItemNode}
 use Rattle.lua_machine.specs.Functions as machine
-use Rattle.lua_machine.specs.Library as library
 use Rattle.lua_frames.specs.declared.parts.Parts.{Parts}
 use Rattle.lua_frames.specs.declared.parts.Parts.TheVariants as p
 use Rattle.lua_frames.specs.declared.functions.Function.{Function}
-use Rattle.lua_frames.specs.declared.functions.MathFunction.{MathFunction}
-use Rattle.lua_frames.specs.declared.functions.MathFunction.TheVariants as m
-use Rattle.lua_frames.specs.declared.functions.TableFunction.{TableFunction}
-use Rattle.lua_frames.specs.declared.functions.TableFunction.TheVariants as a
 
 -- the expressions that are left
 abbrev pub nodes_in : Parts → Nodes
@@ -40,19 +35,6 @@ arms_in all otherwise = arms (map arm_of all) (option_map block_of otherwise)
 -- a function
 abbrev pub function_in : Function → machine.Function
 function_in f = record { params = f.params.now; body = block_of f.body.now }
-
--- a function of `math`
-abbrev pub math_in : MathFunction → library.MathFunction
-math_in m.Random = library.Random
-math_in m.Floor = library.Floor
-math_in m.Abs = library.Abs
-math_in m.Min = library.Min
-math_in m.Max = library.Max
-
--- a function of `table`
-abbrev pub table_in : TableFunction → library.TableFunction
-table_in a.Insert = library.Insert
-table_in a.Remove = library.Remove
 
 -- the function of an item, if it has this name
 abbrev pub named : List ℕ → ItemNode → Option machine.Function

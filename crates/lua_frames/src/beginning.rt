@@ -7,15 +7,17 @@ ghost use Rattle.lua_machine.specs.Yields.{most_calls};
 ghost use Rattle.lua_state.specs.Store.{parts, without};
 ghost use Rattle.lua_frames.specs.Frames.{making_of};
 ghost use Rattle.lua_frames.specs.Machines.{frames_with, state_in, store_in, waiting};
-ghost use Rattle.lua_frames.specs.Parts.{function_in, math_in, nodes_in, table_in};
+ghost use Rattle.lua_frames.specs.Parts.{function_in, nodes_in};
+ghost use Rattle.lua_operations.specs.Functions.{math_in, table_in};
 ghost use Rattle.lua_frames.specs.Turns.{Turns};
 
 use crate::control::Control;
 use crate::frame::{Frame, Making, push_frame};
-use crate::functions::{Function, MathFunction, TableFunction};
+use crate::functions::Function;
 use crate::machine::Machine;
 use crate::parts::Parts;
 use lua_machine::LuaError;
+use lua_operations::{MathFunction, TableFunction};
 use lua_tree::Expr;
 use std::alloc::Global;
 

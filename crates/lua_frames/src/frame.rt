@@ -1,8 +1,9 @@
 //! What waits.
 ghost use Rattle.std.specs.Prelude.{◌≡◌, [], ◌∷◌, ◌++◌, OnOk, OnErr};
 
-use crate::functions::{Function, MathFunction, TableFunction};
+use crate::functions::Function;
 use crate::parts::Parts;
+use lua_operations::{MathFunction, TableFunction};
 use lua_tree::{Arm, BinaryOp, Entry, Expr, Item, LuaBlock, LuaStatement, UnaryOp};
 use tis_base::NoMemory;
 

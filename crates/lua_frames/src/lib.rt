@@ -34,7 +34,7 @@ mod units;
 
 pub use control::Control;
 pub use frame::{Frame, Making};
-pub use functions::{Function, MathFunction, TableFunction};
+pub use functions::Function;
 pub use machine::Machine;
 pub use parts::Parts;
 pub use units::Units;

@@ -3,10 +3,10 @@ ghost use Rattle.std.specs.Prelude.{◌≡◌, map};
 ghost use Rattle.std.specs.Option.{option_map};
 ghost use Rattle.lua_machine.specs.Tree.{node_of, nodes, none, ◌and◌};
 ghost use Rattle.lua_machine.specs.Turn.{quotient_of, under_floor};
-ghost use Rattle.lua_frames.specs.Parts.{math_in};
+ghost use Rattle.lua_operations.specs.Functions.{math_in};
 ghost use Rattle.lua_frames.specs.Quotients.{quotient_in};
 
-use crate::functions::MathFunction;
+use lua_operations::MathFunction;
 use lua_tree::{BinaryOp, Expr};
 
 /// Its sides and its line.

@@ -42,18 +42,13 @@ impl LuaNumber {
         }
     }
 
-    /// 0.
-    pub fn zero() -> LuaNumber
-        ensures { result ≡ pos 0 }
+    /// A number as small as this.
+    pub fn small(value: u8) -> LuaNumber
+        ensures { result ≡ pos value }
     {
-        LuaNumber { number: 0 }
-    }
-
-    /// 1.
-    pub fn one() -> LuaNumber
-        ensures { result ≡ pos 1 }
-    {
-        LuaNumber { number: 1 }
+        LuaNumber {
+            number: value as i64,
+        }
     }
 
     /// The number.

@@ -10,7 +10,8 @@ use Rattle.lua_store.specs.declared.value.SmallValue.{SmallValue}
 use Rattle.lua_store.specs.Values.{Texts, IsHeld, meant}
 use Rattle.lua_store.specs.Rows.{Cells, tables_of}
 use Rattle.lua_state.specs.declared.held.HeldState.{HeldState}
-use Rattle.lua_state.specs.Held.{Comes, state_of, store_of}
+use Rattle.lua_state.specs.Held.{state_of, store_of}
+use Rattle.lua_operations.specs.Results.{Comes, Makes}
 use Rattle.lua_state.specs.Store.{Store, Refuses, parts, pushed, in_state, with_made, with_done, with_ended, without}
 use Rattle.lua_tree.specs.declared.tree.UnaryOp.{UnaryOp}
 use Rattle.lua_tree.specs.declared.tree.BinaryOp.{BinaryOp}
@@ -143,3 +144,8 @@ not_put (e.LongString line) wanted store is = ap (λ r. with_ended r store) is
 not_put (e.TooDeepCalls line) wanted store is = ap (λ r. with_ended r store) is
 not_put e.Budget wanted store is = is
 not_put e.NoMemory wanted store is = tt
+
+-- a value that was made with another state behind it
+pub made_with : (texts : Texts) (value : SmallValue) (now : State) (done : Done LuaValue) (store after : Store) → Makes texts (Ok value) now done → after ≡ pushed (meant texts value) (in_state now store) → with_done done store ≡ Ok after
+made_with texts value now done store after makes is =
+    ap (λ (d : Done LuaValue). with_done d store) makes.0 ∙ ap Ok (sym is)

@@ -44,6 +44,14 @@ not_opened e.NoMemory wanted store is = tt
 pub is_opened : (wanted : Result Bounds Fault) (bounds : Bounds) (store now : Store) → wanted ≡ Ok bounds → now ≡ opened bounds store → with_opened wanted store ≡ Ok now
 is_opened wanted bounds store now is same = ap (λ r. with_opened r store) is ∙ ap Ok (sym same)
 
+number_if : (b : Bool) (n m : ℤ) (why : Fault) → (let whole : Answer = Ok (Number n) in whole) ≡ cond b (Ok (Number m)) (Err why) → n ≡ m
+number_if true n m why e = cc
+number_if false n m why e = cc
+
+-- a number that was taken is that number
+pub is_number : (n m : ℤ) → (let whole : Answer = Ok (Number n) in whole) ≡ number 0 m → n ≡ m
+is_number n m e = number_if (nat_le (nat_abs m) greatest) n m (OutOfRange 0) e
+
 none_if : (b : Bool) (m : ℤ) (why : Fault) → (let whole : Answer = Err why in whole) ≡ cond b (Ok (Number m)) (Err why) → b ≡ false
 none_if true m why e = cc
 none_if false m why e = refl

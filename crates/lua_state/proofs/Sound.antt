@@ -1,6 +1,7 @@
 -- What stays sound.
 use Rattle.std.proofs.Common.{◌≡◌, ℕ, ◌-◌, List, [], ◌∷◌, length, drop, sym, ap, ◌∙◌}
 use Rattle.std.specs.List.{All}
+use Rattle.rand_pcg.specs.Lcg.{Lcg}
 use Rattle.lua_store.specs.declared.value.SmallValue.{SmallValue}
 use Rattle.lua_store.specs.Values.{IsHeld}
 use Rattle.lua_store.specs.Rows.{AreHeld, Cells}
@@ -23,6 +24,9 @@ with_values h values sound held = record { apart = sound.apart; values = held; l
 
 pub with_tables : (h : HeldState) (tables : List Cells) → IsSound h → All (AreHeld h.texts) tables → IsSound (record h { tables = tables })
 with_tables h tables sound held = record { apart = sound.apart; values = sound.values; locals = sound.locals; callers = sound.callers; globals = sound.globals; tables = held }
+
+pub with_generator : (h : HeldState) (generator : Lcg) → IsSound h → IsSound (record h { generator = generator })
+with_generator h generator sound = record { apart = sound.apart; values = sound.values; locals = sound.locals; callers = sound.callers; globals = sound.globals; tables = sound.tables }
 
 -- the locals of a block go
 pub cut_held : (h : HeldState) (outer : ℕ) (locals : List Variable) → locals ≡ drop (length h.locals - outer) h.locals → store_of (record h { locals = locals }) ≡ in_state (cut_to outer (state_of h)) (store_of h)

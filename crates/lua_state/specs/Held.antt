@@ -1,8 +1,7 @@
 -- What is held, and what it stands for.
-use Rattle.std.specs.Prelude.{◌≡◌, map, Option, Some, None, Result, Ok, Err}
+use Rattle.std.specs.Prelude.{map, Option, Some, None}
 use Rattle.std.specs.List.{All}
-use Rattle.lua_machine.specs.Value.{LuaValue, Nil, Fault}
-use Rattle.lua_machine.specs.declared.error.LuaError.{LuaError}
+use Rattle.lua_machine.specs.Value.{LuaValue, Nil}
 use Rattle.lua_machine.specs.State as lua
 use Rattle.lua_machine.specs.Yields.{Bounds}
 use Rattle.lua_store.specs.declared.value.SmallValue.{SmallValue}
@@ -11,7 +10,7 @@ use Rattle.lua_store.specs.Rows.{AreHeld, tables_of}
 use Rattle.lua_state.specs.declared.held.HeldState.{HeldState}
 use Rattle.lua_state.specs.declared.bounds.LoopBounds.{LoopBounds}
 use Rattle.lua_state.specs.Variables.{variables_of, IsHeldVariable}
-use Rattle.lua_state.specs.Store.{Store, Refuses}
+use Rattle.lua_state.specs.Store.{Store}
 
 abbrev pub bounds_in : LoopBounds → Bounds
 bounds_in b = record { first = b.first; last = b.last; by = b.by }
@@ -37,8 +36,3 @@ pub record IsSound (h : HeldState) : Type 0 where
 abbrev pub meant_or_nil : Texts → Option SmallValue → LuaValue
 meant_or_nil texts None = Nil
 meant_or_nil texts (Some value) = meant texts value
-
--- a value was made as wanted, and its text is held, unless memory ran out
-abbrev pub Comes : Texts → Result SmallValue LuaError → Result LuaValue Fault → Type 0
-Comes texts (Ok value) wanted = (wanted ≡ Ok (meant texts value)) × IsHeld texts value
-Comes texts (Err why) wanted = Refuses why wanted

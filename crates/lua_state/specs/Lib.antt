@@ -1,7 +1,6 @@
 pub mod Stacks
 pub mod Variables
 pub mod Store
-pub mod Operations
 pub mod Calls
 pub mod Held
 pub mod Loops

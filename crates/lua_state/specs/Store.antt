@@ -4,9 +4,9 @@ use Rattle.lua_machine.specs.Value.{LuaValue, Nil, Number, Fault, is_key}
 use Rattle.lua_machine.specs.Value as lua
 use Rattle.lua_machine.specs.State.{State, Variables, Done, assigned, fresh}
 use Rattle.lua_machine.specs.declared.error.LuaError.{LuaError}
-use Rattle.lua_machine.specs.declared.error.LuaError.TheVariants as e
 use Rattle.lua_machine.specs.Tables.{stored}
 use Rattle.lua_machine.specs.Yields.{Bounds, Way, Fails, Gone}
+pub use Rattle.lua_operations.specs.Results.{Refuses}
 
 -- values that wait, the locals of the calls around, and the bounds of the loops that are open, each innermost first
 pub record Store : Type 0 where
@@ -52,26 +52,10 @@ with_made (Err why) state store = Err why
 abbrev pub with_done : Done LuaValue → Store → Result Store Fault
 with_done done store = with_made done.outcome done.state store
 
--- a refusal is this fault, unless memory ran out
-abbrev pub Refuses : {T : Type 0} → LuaError → Result T Fault → Type 0
-Refuses (e.TypeFault line) wanted = wanted ≡ Err (lua.TypeFault line)
-Refuses (e.UnknownName line) wanted = wanted ≡ Err (lua.UnknownName line)
-Refuses (e.Inexact line) wanted = wanted ≡ Err (lua.Inexact line)
-Refuses (e.OutOfRange line) wanted = wanted ≡ Err (lua.OutOfRange line)
-Refuses (e.LongString line) wanted = wanted ≡ Err (lua.LongString line)
-Refuses (e.TooDeepCalls line) wanted = wanted ≡ Err (lua.TooDeepCalls line)
-Refuses e.Budget wanted = ⊥
-Refuses e.NoMemory wanted = Unit {0}
-
 -- a call came to the wanted end, unless memory ran out
 abbrev pub Answers : {U T : Type 0} → Result U LuaError → T → Result T Fault → Type 0
 Answers (Ok u) now wanted = wanted ≡ Ok now
 Answers (Err why) now wanted = Refuses why wanted
-
--- and it gives what is wanted
-abbrev pub ComesTo : {T : Type 0} → Result T LuaError → Result T Fault → Type 0
-ComesTo (Ok x) wanted = wanted ≡ Ok x
-ComesTo (Err why) wanted = Refuses why wanted
 
 -- a state that a statement left, or its fault
 abbrev pub left_by : Way → State → Result State Fault

@@ -83,7 +83,7 @@ fn two_bounds(line: usize, first: SmallValue, last: SmallValue) -> Result<LoopBo
             SmallValue::Number(last) => Ok(LoopBounds {
                 first,
                 last,
-                by: LuaNumber::one(),
+                by: LuaNumber::small(1),
             }),
             _ => Err(LuaError::TypeFault { line }),
         },

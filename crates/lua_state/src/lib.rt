@@ -17,7 +17,7 @@
 //! number of variables in scope. A new text takes memory, and so does a value that is put, now and then; no call copies a table
 //! or a list of variables.
 //!
-//! What is still missing: the libraries. Units are for the caller.
+//! Units are for the caller.
 #![tactic(auto)]
 
 mod bounds;
@@ -26,7 +26,6 @@ mod held;
 mod loops;
 mod making;
 mod names;
-mod operators;
 mod stack;
 mod starting;
 mod state;

@@ -47,7 +47,7 @@ impl HeldState {
         ensures closed { store_of self.new ≡ closed (store_of self.old) }
         ensures sound { IsSound self.new }
     {
-        let none = LuaNumber::zero();
+        let none = LuaNumber::small(0);
         self.loops.pop_or(LoopBounds {
             first: none,
             last: none,

@@ -9,8 +9,8 @@ ghost use Rattle.lua_state.specs.Held.{IsSound, state_of, store_of};
 ghost use Rattle.lua_state.specs.Store.{in_state, newest, popped, pushed};
 
 use crate::held::HeldState;
-use crate::operators::is_true;
 use crate::variables::Variable;
+use lua_operations::is_true;
 use lua_store::SmallValue;
 use lua_tree::BinaryOp;
 use std::alloc::Global;

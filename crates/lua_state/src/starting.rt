@@ -1,5 +1,5 @@
 //! How a call begins.
-ghost use Rattle.std.specs.Prelude.{◌≡◌, ◌<◌, ◌^◌, pos, [], IfOk, OnOk};
+ghost use Rattle.std.specs.Prelude.{◌≡◌, pos, [], IfOk, OnOk};
 ghost use Rattle.lua_machine.specs.Value.{Number};
 ghost use Rattle.lua_machine.specs.State.{assigned};
 ghost use Rattle.lua_state.specs.Held.{IsSound, state_of, store_of};
@@ -14,18 +14,6 @@ use rand_pcg::Pcg32;
 use std::alloc::Global;
 use tis_base::NoMemory;
 
-// A count as a number. There is no memory for one past 2^53.
-fn small(count: u64) -> Result<LuaNumber, NoMemory>
-    requires { count < 2 ^ 63 }
-    ensures { IfOk result (λ n. n ≡ pos count) }
-{
-    let number = count as i64;
-    match LuaNumber::new(number) {
-        Some(number) => Ok(number),
-        None => Err(NoMemory),
-    }
-}
-
 impl HeldState {
     // Gives a name a number.
     fn set_number(&mut self, alloc: Global, name: &[u8], number: u8) -> Result<(), NoMemory>
@@ -33,8 +21,7 @@ impl HeldState {
         ensures assigned { OnOk result (store_of self.new ≡ in_state (assigned name.now (Number (pos number)) (state_of self.old)) (store_of self.old)) }
         ensures sound { IsSound self.new }
     {
-        let number = small(u64::from(number))?;
-        self.push_number(number)?;
+        self.push_number(LuaNumber::small(number))?;
         self.assign(alloc, name)?;
         Ok(())
     }

@@ -2,11 +2,13 @@
 ghost use Rattle.std.specs.Prelude.{◌≡◌, [], ◌∷◌, ◌++◌, length, pos, IfOk, OnOk};
 ghost use Rattle.lua_machine.specs.Value.{Nil, Number, Table, Truth, is_true};
 ghost use Rattle.lua_machine.specs.Value as lua;
+ghost use Rattle.lua_machine.specs.Library.{math_result, table_result};
 ghost use Rattle.lua_machine.specs.Operators.{decides, text};
 ghost use Rattle.lua_machine.specs.State.{assigned, declared, value_of};
 ghost use Rattle.lua_machine.specs.Tables.{no_keys};
 ghost use Rattle.lua_machine.specs.Turn.{cut_to};
 ghost use Rattle.lua_machine.specs.Yields.{binary_result, bounds_of, comes, floor_result, indexed, next_turn, put, put_member, unary_result, with_member};
+ghost use Rattle.lua_operations.specs.Functions.{math_in, table_in};
 ghost use Rattle.lua_state.specs.Calls.{called, left};
 ghost use Rattle.lua_state.specs.Held.{state_of, store_of};
 ghost use Rattle.lua_state.specs.Loops.{closed, newest_bounds, turning, with_opened};
@@ -15,6 +17,7 @@ ghost use Rattle.lua_state.specs.Store.{Answers, ended, in_state, newest, parts,
 use crate::held::HeldState;
 use lua_machine::LuaError;
 use lua_numbers::LuaNumber;
+use lua_operations::{MathFunction, TableFunction};
 use lua_tree::{BinaryOp, Text, UnaryOp};
 use std::alloc::Global;
 use std::marker::Model;
@@ -185,6 +188,30 @@ impl LuaState {
         ensures { Answers result (store_of self.new) (with_done (floor_result line (parts count (store_of self.old)) (state_of self.old)) (without count (store_of self.old))) }
     {
         self.held.floors(count, line)
+    }
+
+    /// What a function of `math` makes of the newest so many values.
+    pub fn math(
+        &mut self,
+        count: usize,
+        function: MathFunction,
+        line: usize,
+    ) -> Result<(), LuaError>
+        ensures { Answers result (store_of self.new) (with_done (math_result (math_in function) line (parts count (store_of self.old)) (state_of self.old)) (without count (store_of self.old))) }
+    {
+        self.held.math(count, function, line)
+    }
+
+    /// What a function of `table` makes of the newest so many values.
+    pub fn table(
+        &mut self,
+        count: usize,
+        function: TableFunction,
+        line: usize,
+    ) -> Result<(), LuaError>
+        ensures { Answers result (store_of self.new) (with_done (table_result (table_in function) line (parts count (store_of self.old)) (state_of self.old)) (without count (store_of self.old))) }
+    {
+        self.held.table(count, function, line)
     }
 
     /// The value at a key of a table; the newest so many values have to be both.

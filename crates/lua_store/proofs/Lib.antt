@@ -1,3 +1,4 @@
+pub mod Borders
 pub mod Gathered
 pub mod Growing
 pub mod Held

@@ -1,8 +1,7 @@
 use Rattle.std.proofs.Common.{Bool, false, ap, ◌+ℤ◌, pos, ℤ}
 use Rattle.std.specs.Prelude.{int_lt, int_le, ◌&&◌, if◌then◌else◌}
 use Rattle.lua_machine.specs.Yields.{Bounds}
-use Rattle.lua_state.proofs.Comparing.{is_number}
-use Rattle.lua_state.proofs.Opening.{is_past}
+use Rattle.lua_state.proofs.Opening.{is_number, is_past}
 use Rattle.lua_state.proofs.bounds.following.Goals as goal
 
 pub returns-in-Some : goal.returns-in-Some

@@ -4,7 +4,7 @@ use Rattle.lua_machine.specs.Library.{MathFunction}
 use Rattle.lua_machine.specs.Tree.{nodes, node_of}
 use Rattle.lua_machine.specs.Turn.{math_begun}
 use Rattle.lua_frames.specs.Machines.{state_in, waiting}
-use Rattle.lua_frames.specs.Parts.{math_in}
+use Rattle.lua_operations.specs.Functions.{math_in}
 use Rattle.lua_frames.specs.Turns.{Turns}
 use Rattle.lua_frames.proofs.machine.Machine.math_call.Goals as goal
 

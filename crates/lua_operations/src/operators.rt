@@ -3,12 +3,11 @@ ghost use Rattle.std.specs.Prelude.{◌≡◌, ◌<◌, ◌^◌, pos, Ok, Err, B
 ghost use Rattle.lua_machine.specs.Value as lua;
 ghost use Rattle.lua_machine.specs.Value.{Fault, LuaValue, is_true};
 ghost use Rattle.lua_machine.specs.Operators.{arithmetic, binary_of, floor_of_quotient, is_before, is_less, joined, on_numbers, text, truth, unary_of, untruth};
-ghost use Rattle.lua_state.specs.Operations.{Joins, Writes, is_join};
+ghost use Rattle.lua_operations.specs.Operations.{Joins, Writes, is_join};
 ghost use Rattle.lua_numbers.specs.Numbers.{number_or};
 ghost use Rattle.lua_store.specs.Rows.{tables_of};
 ghost use Rattle.lua_store.specs.Values.{AreApart, IsHeld, Texts, meant};
-ghost use Rattle.lua_state.specs.Store.{ComesTo};
-ghost use Rattle.lua_state.specs.Held.{Comes};
+ghost use Rattle.lua_operations.specs.Results.{Comes, ComesTo};
 
 use lua_machine::LuaError;
 use lua_numbers::LuaNumber;
@@ -18,7 +17,7 @@ use std::alloc::Global;
 use tis_base::push_number;
 
 /// Whether a value counts as true.
-pub(crate) fn is_true(value: SmallValue) -> bool
+pub fn is_true(value: SmallValue) -> bool
     ensures { (texts : Texts) → result ≡ is_true (meant texts value) }
 {
     match value {

@@ -7,7 +7,7 @@ use Rattle.lua_machine.specs.declared.error.LuaError.{LuaError}
 use Rattle.lua_machine.specs.declared.error.LuaError.TheVariants as e
 use Rattle.lua_machine.specs.Value.{LuaValue, Text, Number, Fault}
 use Rattle.lua_machine.specs.Operators.{joined}
-use Rattle.lua_state.specs.Store.{Refuses}
+use Rattle.lua_operations.specs.Results.{Refuses}
 use Rattle.lua_tree.specs.declared.tree.BinaryOp.{BinaryOp}
 use Rattle.lua_tree.specs.declared.tree.BinaryOp.TheVariants as binary
 
