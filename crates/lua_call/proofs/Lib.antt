@@ -1,1 +1,4 @@
-mod Defined
+pub mod Defined
+pub mod Turning
+pub mod Giving
+pub mod Answering

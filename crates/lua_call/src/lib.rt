@@ -15,10 +15,13 @@
 //!
 //! `laws` says that a name is defined exactly where a function is found under it.
 //!
-//! Nothing here evaluates anything yet: each call answers that there is no memory for it.
+//! A call makes a machine of `lua_frames` and takes turns of it up to the end (`running.rt`), in two loops: one up to the first turn that pays
+//! a unit, since fewer turns that pay nothing are left with each, and one around it, which has 500,000 units. So each call ends, and takes time by
+//! the units that it pays. Its memory is given back at its end.
 #![tactic(auto)]
 
 mod calling;
 pub mod laws;
+mod running;
 
 pub use calling::{Called, call};
