@@ -1,3 +1,6 @@
 pub mod Finding
 pub mod Several
 pub mod Numerals
+pub mod Backs
+pub mod Parted
+pub mod Assigning

@@ -1,10 +1,11 @@
 -- What frames in memory stand for: a frame takes what waits for it beside the frames, and leaves the rest to those around it.
-use Rattle.std.specs.Prelude.{pos, List, [], ◌∷◌, take, drop, reverse}
+use Rattle.std.specs.Prelude.{List, [], ◌∷◌, take, drop, reverse}
 use Rattle.lua_machine.specs.Value.{LuaValue}
 use Rattle.lua_machine.specs.State.{Variables}
 use Rattle.lua_machine.specs.Yields.{Bounds}
 use Rattle.lua_machine.specs.Tree.{node_of, block_of, items_of}
 use Rattle.lua_machine.specs.Machine as machine
+use Rattle.lua_state.specs.Loops.{newest_bounds}
 use Rattle.lua_state.specs.Stacks.{top, below}
 use Rattle.lua_state.specs.Store.{Store}
 use Rattle.lua_frames.specs.declared.frame.Making.{Making}
@@ -22,9 +23,6 @@ pub record Waits : Type 0 where
 
 abbrev pub waits_in : Store → Waits
 waits_in store = record { values = store.values; callers = store.callers; loops = store.loops }
-
-abbrev pub no_bounds : Bounds
-no_bounds = record { first = pos 0; last = pos 0; by = pos 0 }
 
 -- what is made of parts
 abbrev pub making_of : Making → machine.Making
@@ -58,7 +56,7 @@ frame_of (f.Others others) w = machine.Others (block_in others.now)
 frame_of (f.Inner outer) w = machine.Inner outer
 frame_of (f.WhileBody outer test body) w = machine.WhileBody outer (node_of test.now) (block_of body.now)
 frame_of (f.RepeatBody outer body test) w = machine.RepeatBody outer (block_of body.now) (node_of test.now)
-frame_of (f.ForBody outer called body) w = machine.ForBody outer called.now (top no_bounds w.loops) (block_of body.now)
+frame_of (f.ForBody outer called body) w = machine.ForBody outer called.now (newest_bounds w.loops) (block_of body.now)
 frame_of (f.Caller calls) w = machine.Caller (top [] w.callers) calls
 frame_of (f.Items items) w = machine.Items (items_of items.now)
 

@@ -1,6 +1,9 @@
+pub mod Ways
 pub mod Quotients
 pub mod Units
 pub mod Parts
 pub mod Frames
 pub mod Machines
 pub mod Turns
+pub mod Steps
+pub mod Assignments

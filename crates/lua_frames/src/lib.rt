@@ -1,22 +1,28 @@
-//! How a machine of frames begins expressions and statements of Lua.
+//! A machine of frames that takes the turns of Lua.
 //!
 //! A [`Machine`] has the frames of all that waits, the state of an evaluation (`lua_state`), how many calls are open, and the
 //! [`Units`] that are paid; a [`Control`] says where it is. Contracts see both as a configuration of
-//! `lua_machine/specs/Machine.antt`: `machine_of` of `specs/Machines.antt`. [`Machine::evaluate`] and [`Machine::execute`] do what
-//! a turn of that machine does at an expression and at a statement: they pay the unit, and come to the next configuration, or to
-//! the fault with its line, or say that the budget is spent, and then the turn has paid more than 500,000 units (`Turns` of
-//! `specs/Turns.antt`).
+//! `lua_machine/specs/Machine.antt`: `machine_of` of `specs/Machines.antt`. [`Machine::turn`] does what a turn of that machine does
+//! (`Steps` of `specs/Steps.antt`): it comes to the next configuration, or to the end, or to the fault with its line, or it says that
+//! the budget is spent, and then the turn has paid more than 500,000 units.
 //!
 //! ```text
 //! let mut machine = Machine::new(alloc, seed)?;
-//! let control = machine.execute(alloc, statement)?;    // Control::Evaluate(value), say
+//! let mut control = machine.assign_items(alloc, main, items)?;
+//! while let Step::Next(next) = machine.turn(alloc, items, main, control)? {
+//!     control = next;
+//! }
 //! ```
 //!
-//! A [`Frame`] is copied: it holds references into the tree and counts, and the values of its parts, the locals of a caller and
-//! the bounds of a loop wait beside it in the state. To begin a node takes memory for a frame at most, and for what `lua_state` takes;
-//! a function is looked up by a walk over the items of the chunk.
+//! There is one function for each case of the definition of a turn. Half of them begin a node ([`Machine::evaluate`] and
+//! [`Machine::execute`]): they pay its unit, and leave a frame for what they evaluate first. The others go on with a frame
+//! (`resuming.rt` with a value, `ways.rt` with a way out of a statement, `looping.rt` with the turns of a `for`), and make
+//! something of the values of parts (`making.rt`, `storing.rt`). A frame that waits for a value is given nil where none comes back, as
+//! the definition has it, which is never so in turns from the start.
 //!
-//! What is still missing is the other half of a turn: what a frame does with what comes back to it.
+//! A [`Frame`] is copied: it holds references into the tree and counts, and the values of its parts, the locals of a caller and
+//! the bounds of a loop wait beside it in the state. A turn takes memory for a frame or two at most, and for what `lua_state` takes;
+//! a function is looked up by a walk over the items of the chunk. Nothing here takes more than one turn.
 #![tactic(auto)]
 
 mod beginning;
@@ -26,15 +32,25 @@ mod entries;
 mod expressions;
 mod frame;
 mod functions;
+mod items;
+mod looping;
 mod machine;
+mod making;
 mod parts;
 mod quotient;
+mod resuming;
 mod statements;
+mod storing;
+mod turns;
 mod units;
+mod ways;
 
 pub use control::Control;
 pub use frame::{Frame, Making};
-pub use functions::Function;
+pub use functions::{Function, find_function};
+pub use items::Assignment;
 pub use machine::Machine;
 pub use parts::Parts;
+pub use turns::Step;
 pub use units::Units;
+pub use ways::{Way, take_back};

@@ -26,6 +26,7 @@ mod held;
 mod loops;
 mod making;
 mod names;
+mod plain;
 mod stack;
 mod starting;
 mod state;

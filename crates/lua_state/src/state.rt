@@ -6,7 +6,9 @@ ghost use Rattle.lua_machine.specs.Library.{math_result, table_result};
 ghost use Rattle.lua_machine.specs.Operators.{decides, text};
 ghost use Rattle.lua_machine.specs.State.{assigned, declared, value_of};
 ghost use Rattle.lua_machine.specs.Tables.{no_keys};
+ghost use Rattle.lua_machine.specs.Answer.{plain_of};
 ghost use Rattle.lua_machine.specs.Turn.{cut_to};
+ghost use Rattle.lua_results.specs.Results.{Makes};
 ghost use Rattle.lua_machine.specs.Yields.{binary_result, bounds_of, comes, floor_result, indexed, next_turn, put, put_member, unary_result, with_member};
 ghost use Rattle.lua_operations.specs.Functions.{math_in, table_in};
 ghost use Rattle.lua_state.specs.Calls.{called, left};
@@ -18,6 +20,7 @@ use crate::held::HeldState;
 use lua_machine::LuaError;
 use lua_numbers::LuaNumber;
 use lua_operations::{MathFunction, TableFunction};
+use lua_plain::Plain;
 use lua_tree::{BinaryOp, Text, UnaryOp};
 use std::alloc::Global;
 use std::marker::Model;
@@ -96,6 +99,21 @@ impl LuaState {
         ensures { store_of self.new ≡ popped (store_of self.old) }
     {
         self.held.pop();
+    }
+
+    /// Puts nil where no value waits.
+    pub fn have_value(&mut self) -> Result<(), NoMemory>
+        ensures { OnOk result (store_of self.new ≡ pushed (newest (store_of self.old).values) (popped (store_of self.old))) }
+    {
+        self.held.have_value()
+    }
+
+    /// Takes the newest value, and makes it plain. A unit is paid for each value that is made plain; `Budget` is answered where
+    /// more are wanted than are left.
+    pub fn take_plain(&mut self, alloc: Global, units: &mut u64) -> Result<Plain, LuaError>
+        ensures { Makes result units.old units.new (plain_of 4 (state_of self.old).tables (newest (store_of self.old).values)) }
+    {
+        self.held.take_plain(alloc, units)
     }
 
     /// Takes the newest value, and tells whether it counts as true.

@@ -1,0 +1,4 @@
+pub mod Defined
+pub mod Turning
+pub mod Giving
+pub mod Answering
