@@ -23,6 +23,15 @@ abbrev pub is_head : Words → Bool
 is_head (grid ∷ one ∷ []) = bytes_eq grid (codes "grid") && bytes_eq one (codes "1")
 is_head _ = false
 
+-- whether lines are those of a grid: the first is `grid 1`
+abbrev pub begins_grid : List NonBlank → Bool
+begins_grid [] = false
+begins_grid (line ∷ lines) = is_head line.words
+
+-- whether a text is that of a grid: its first line that isn't blank is `grid 1`, where a line that has only a comment is blank
+abbrev pub is_grid_text : List ℕ → Bool
+is_grid_text text = begins_grid (non_blank_lines BehindHash text)
+
 -- the kind of tile that a letter names
 abbrev pub kind_of : ℕ → Option TileKind
 kind_of byte = if byte == 67 then Some Compute else (if byte == 77 then Some Memory else (if byte == 68 then Some Damaged else None))

@@ -4,7 +4,7 @@ ghost use Rattle.tis_base.specs.Answers.{Gives};
 ghost use Rattle.tis_words.specs.Words.{words_in};
 ghost use Rattle.tis_words.specs.Numerals.{number_of as spelled_number};
 ghost use Rattle.tis_grid.specs.Puzzle.{IsPuzzle, puzzle_of, bare, input_at, output_at};
-ghost use Rattle.tis_grid_text.specs.GridText.{is_head, kind_of, row_of, tiles_of, values_of, black, shown, image_of, port_of, grid_of};
+ghost use Rattle.tis_grid_text.specs.GridText.{is_head, is_grid_text, kind_of, row_of, tiles_of, values_of, black, shown, image_of, port_of, grid_of};
 ghost use Rattle.tis_grid_text.specs.Answering.{AnswersGrid, AddsLine, GivesSome, ReadsHead};
 
 use crate::error::GridTextError;
@@ -28,6 +28,18 @@ fn is_first(line: &[u8]) -> bool
             named && first
         }
         _ => false,
+    }
+}
+
+/// Whether a text is that of a grid: its first line that isn't blank is `grid 1`, whatever comes behind it. A line that has only a
+/// comment is blank. Each text of which [`read_grid`] makes a puzzle is one.
+pub fn is_grid_text(text: &[u8]) -> bool
+    ensures { result ≡ is_grid_text text.now }
+{
+    let mut whole = NonBlankLines::new(text, Comments::BehindHash);
+    match whole.next() {
+        Some((_, line)) => is_first(line),
+        None => false,
     }
 }
 

@@ -3,7 +3,8 @@
 //! # What it is for
 //!
 //! [`read_events`] reads an order of events, one a line, and [`read_grid`] reads a puzzle: the tiles, what
-//! comes in at their top and what is wanted at their bottom.
+//! comes in at their top and what is wanted at their bottom. [`is_grid_text`] tells whether a text is that of a grid at all, by its
+//! first line.
 //!
 //! # What the layers above use
 //!
@@ -33,8 +34,8 @@ mod laws;
 
 pub use error::{EventsError, GridTextError};
 pub use events::read_events;
-pub use grid::read_grid;
-pub use laws::grids_are_puzzles;
+pub use grid::{is_grid_text, read_grid};
+pub use laws::{grids_are_puzzles, grids_have_heads};
 
 #[cfg(test)]
 mod tests;

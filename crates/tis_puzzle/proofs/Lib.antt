@@ -1,3 +1,4 @@
 mod FoundKinds
 mod EntryPuzzles
-mod LuaPuzzles
+pub mod LuaPuzzles
+pub mod Called

@@ -11,10 +11,12 @@ use Rattle.lua_machine.specs.Functions.{Function, function_of}
 use Rattle.lua_machine.proofs.OneAnswer.{yields_once}
 use Rattle.lua_machine.proofs.Settling.{calls_come_to_something}
 use Rattle.lua_plain.specs.Plain.{list_in}
+use Rattle.tis_puzzle.specs.declared.error.Wanted.{Wanted}
+use Rattle.tis_puzzle.specs.declared.error.Wanted.TheVariants.{Name, Description, Streams, Layout}
 use Rattle.tis_puzzle.specs.Entries as entries
 use Rattle.tis_puzzle.specs.Entries.{ports_of, ports_of_list}
 use Rattle.tis_puzzle.specs.Layout.{kind_in, with_kind, kinds_of, kinds_of_list, layout_of}
-use Rattle.tis_puzzle.specs.LuaPuzzle.{Wanted, Name, Description, Streams, Layout, called, first_missing, EachHasAPuzzleOrNone, NoFunction, Outcome, Given, Faulted, Spent, ComesTo, Refusal, missing, ports_or, ports_from, on_tiles, on_layout, WithPorts, WithFunctions, OnePuzzle, SpecificationsGivePuzzles}
+use Rattle.tis_puzzle.specs.LuaPuzzle.{called, first_missing, EachHasAPuzzleOrNone, NoFunction, Outcome, Given, Faulted, Spent, ComesTo, Refusal, missing, ports_or, ports_from, on_tiles, on_layout, WithPorts, WithFunctions, OnePuzzle, SpecificationsGivePuzzles}
 use Rattle.tis_puzzle.proofs.EntryPuzzles.{ports_make_puzzle}
 
 -- ---- one puzzle at most
@@ -146,6 +148,20 @@ not_missing chunk wanted others =
       | false ↦ λ is. absurd cc
     ]
 
+both_there : (chunk : List ItemNode) → missing chunk ≡ None → IsTrue (is_some (function_of chunk (called Streams))) × IsTrue (is_some (function_of chunk (called Layout)))
+both_there chunk is =
+    let named = not_missing chunk Name (Description ∷ Streams ∷ Layout ∷ []) is in
+    let described = not_missing chunk Description (Streams ∷ Layout ∷ []) named.1 in
+    let streaming = not_missing chunk Streams (Layout ∷ []) described.1 in
+    (streaming.0, (not_missing chunk Layout [] streaming.1).0)
+
+-- where none is missing, those that are called are there
+pub streams_there : (chunk : List ItemNode) → missing chunk ≡ None → IsTrue (is_some (function_of chunk (called Streams)))
+streams_there chunk is = (both_there chunk is).0
+
+pub layout_there : (chunk : List ItemNode) → missing chunk ≡ None → IsTrue (is_some (function_of chunk (called Layout)))
+layout_there chunk is = (both_there chunk is).1
+
 outcome_by : (chunk : List ItemNode) (seed : ℕ) (wanted : Wanted) (function : Option Function) → function_of chunk (called wanted) ≡ function → IsTrue (is_some function) → (outcome : Outcome) × ComesTo chunk seed wanted outcome
 outcome_by chunk seed wanted None is there = absurd cc
 outcome_by chunk seed wanted (Some main) is there =
@@ -166,12 +182,8 @@ answer_with_ports chunk seed (Err why) there = (Err why, refl)
 answer_with_functions : (chunk : List ItemNode) (seed : ℕ) (gap : Option Wanted) → missing chunk ≡ gap → (answer : Result Puzzle Refusal) × WithFunctions chunk seed gap answer
 answer_with_functions chunk seed (Some wanted) is = (Err (NoFunction wanted), refl)
 answer_with_functions chunk seed None is =
-    let named = not_missing chunk Name (Description ∷ Streams ∷ Layout ∷ []) is in
-    let described = not_missing chunk Description (Streams ∷ Layout ∷ []) named.1 in
-    let streaming = not_missing chunk Streams (Layout ∷ []) described.1 in
-    let laid_out = not_missing chunk Layout [] streaming.1 in
-    let streams = outcome_there chunk seed Streams streaming.0 in
-    let answer = answer_with_ports chunk seed (ports_from streams.0) laid_out.0 in
+    let streams = outcome_there chunk seed Streams (streams_there chunk is) in
+    let answer = answer_with_ports chunk seed (ports_from streams.0) (layout_there chunk is) in
     (answer.0, (streams.0, streams.1, answer.1))
 
 pub each_has_a_puzzle_or_none : EachHasAPuzzleOrNone

@@ -14,6 +14,8 @@ abbrev pub RefusesEntry : PuzzleError → Result Puzzle Refusal → Type 0
 RefusesEntry (error.BadStreams index) ports = ports ≡ Err (BadStreams index)
 RefusesEntry (error.SamePlace index) ports = ports ≡ Err (SamePlace index)
 RefusesEntry (error.BadLayout index) ports = ⊥
+RefusesEntry (error.NoFunction _) ports = ⊥
+RefusesEntry (error.Lua _ _) ports = ⊥
 RefusesEntry error.NoMemory ports = Unit {0}
 
 -- the puzzle with the ports, or the first wrong entry

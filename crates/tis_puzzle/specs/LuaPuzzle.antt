@@ -6,14 +6,13 @@ use Rattle.lua_machine.specs.Tree.{ItemNode}
 use Rattle.lua_machine.specs.Value.{Fault}
 use Rattle.lua_machine.specs.Functions.{function_of}
 use Rattle.lua_machine.specs.Answer.{PlainValue, Answers, RunsOut}
+use Rattle.tis_puzzle.specs.declared.error.Wanted.{Wanted}
+use Rattle.tis_puzzle.specs.declared.error.Wanted.TheVariants.{Name, Description, Streams, Layout}
 use Rattle.tis_puzzle.specs.Entries as entries
 use Rattle.tis_puzzle.specs.Entries.{ports_of}
 use Rattle.tis_puzzle.specs.Layout.{layout_of}
 
--- the functions that a specification has to define
-pub data Wanted : Type 0 where
-  Name Description Streams Layout : Wanted
-
+-- the names of the functions that a specification has to define
 abbrev pub called : Wanted → List ℕ
 called Name = codes "get_name"
 called Description = codes "get_description"

@@ -1,34 +1,33 @@
-//! Puzzles from the plain values of a specification.
+//! Puzzles of specifications in Lua.
 //!
 //! A specification is a chunk of Lua whose function `get_streams` gives a list of entries, and `get_layout` a list of
-//! tiles. [`read_streams`] makes the ports of the first list, and [`read_layout`] the tiles of the second. The layers
-//! above rely on this: each answer is what `ports_of` of `specs/Entries.antt` and `layout_of` of `specs/Layout.antt` say,
-//! the first wrong entry or value is the one that is refused, and what is read are the ports of a puzzle, with
-//! different positions on each side.
+//! tiles. [`puzzle`] calls them with a seed, and gives the puzzle that they make, or says why there is none. The layers above rely on this:
+//! the answer is what `LuaPuzzle` of `specs/LuaPuzzle.antt` says of the chunk and the seed, unless memory ran out. Refused is a function that is
+//! missing, a call that fails, or a list that isn't what it has to be, whichever comes first.
 //!
 //! ```text
-//! let mut puzzle = read_streams(alloc, &streams)?;
-//! match read_layout(&layout) {
-//!     Ok(tiles) => puzzle.tiles = tiles,
-//!     Err(index) => return Err(PuzzleError::BadLayout { index }),
-//! }
+//! let chunk = parse(alloc, text)?;
+//! let puzzle = puzzle(alloc, &chunk, seed)?;
 //! ```
 //!
-//! `specs/LuaPuzzle.antt` says what the puzzle of a chunk and a seed is, or why it has none: a function that is missing, a call that
-//! fails, or a list that isn't what it has to be. `laws` says that there is one answer at most, and that a grid can be made
-//! of what is given.
+//! Below it [`read_streams`] makes the ports of the first list, and [`read_layout`] the tiles of the second: each answer is what
+//! `ports_of` of `specs/Entries.antt` and `layout_of` of `specs/Layout.antt` say, and the first wrong entry or value is the one that is refused.
+//! `laws` says that each chunk has one answer with each seed, and that a grid can be made of what is given.
 //!
 //! A list is gone over once, an image's twice, and each of its values is held in two bytes. A list that is too long is
-//! refused once it was copied. Nothing here evaluates a chunk yet: what the functions give has to be there.
+//! refused once it was copied. The functions are called by `lua_call`, which has no evaluation yet, so that so far each call
+//! answers want of memory.
 #![tactic(auto)]
 
+mod calling;
 mod entries;
 mod error;
 pub mod laws;
 mod layout;
 
+pub use calling::puzzle;
 pub use entries::read_streams;
-pub use error::PuzzleError;
+pub use error::{PuzzleError, Wanted};
 pub use layout::read_layout;
 
 #[cfg(test)]

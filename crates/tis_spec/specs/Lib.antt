@@ -1,0 +1,3 @@
+pub mod Specification
+pub mod Answering
+pub mod Laws
