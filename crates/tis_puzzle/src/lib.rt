@@ -15,8 +15,7 @@
 //! `laws` says that each chunk has one answer with each seed, and that a grid can be made of what is given.
 //!
 //! A list is gone over once, an image's twice, and each of its values is held in two bytes. A list that is too long is
-//! refused once it was copied. The functions are called by `lua_call`, which has no evaluation yet, so that so far each call
-//! answers want of memory.
+//! refused once it was copied. Each of the two functions is called once, and pays up to 500,000 units.
 #![tactic(auto)]
 
 mod calling;
