@@ -7,5 +7,3 @@ pub mod Fetching
 mod ClockAnswers
 pub mod Seeds
 mod Networks
-mod Opened
-mod Reported

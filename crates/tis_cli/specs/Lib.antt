@@ -5,4 +5,3 @@ pub mod Ends
 pub mod Commands
 pub mod Outcomes
 pub mod Statuses
-pub mod Refusals

@@ -46,6 +46,6 @@ mod runs;
 mod status;
 
 pub use describing::describe;
-pub use laws::{answers_are_one, reports_answer};
+pub use laws::answers_are_one;
 pub use run::tool;
 pub use status::{Refusal, Status};

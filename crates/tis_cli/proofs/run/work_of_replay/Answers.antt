@@ -2,6 +2,6 @@ use Rattle.tis_cli.proofs.Fetching.{replay_runs}
 use Rattle.tis_cli.proofs.run.work_of_replay.Goals as goal
 
 pub returns-clause-runs : goal.returns-clause-runs
-returns-clause-runs g c =
-    replay_runs (g.S.Store.texts c.args.store.now) (g.S.Store.texts c.fetch.new.self) (g.S.Store.texts c.fetch-2.new.self) c.args.save.now c.args.spec.now c.args.events.now c.in_ok-saved.saved.items c.in_ok-spec.spec.items c.in_ok-events.events.items c.deref.result.now c.deref-2.result.now c.deref-3.result.now c.args.seed c.replay.result
+returns-clause-runs g c seed =
+    replay_runs (g.S.Store.texts c.args.store.now) (g.S.Store.texts c.fetch.new.self) (g.S.Store.texts c.fetch-2.new.self) c.args.save.now c.args.spec.now c.args.events.now c.in_ok-saved.saved.items c.in_ok-spec.spec.items c.in_ok-events.events.items c.deref.result.now c.deref-2.result.now c.deref-3.result.now seed c.replay.result
     c.in_ok-saved.ensures.texts_stay c.in_ok-spec.ensures.texts_stay c.in_ok-saved.ensures.ok c.in_ok-spec.ensures.ok c.in_ok-events.ensures.ok c.deref.ensures.value c.deref-2.ensures.value c.deref-3.ensures.value c.replay.ensures

@@ -2,6 +2,6 @@ use Rattle.tis_cli.proofs.Fetching.{clock_runs}
 use Rattle.tis_cli.proofs.run.work_of_run.Goals as goal
 
 pub returns-clause-runs : goal.returns-clause-runs
-returns-clause-runs g c =
-    clock_runs (g.S.Store.texts c.args.store.now) (g.S.Store.texts c.fetch.new.self) c.args.save.now c.args.spec.now c.in_ok-saved.saved.items c.in_ok-spec.spec.items c.deref.result.now c.deref-2.result.now c.args.seed c.args.cycles c.clock.result
+returns-clause-runs g c seed =
+    clock_runs (g.S.Store.texts c.args.store.now) (g.S.Store.texts c.fetch.new.self) c.args.save.now c.args.spec.now c.in_ok-saved.saved.items c.in_ok-spec.spec.items c.deref.result.now c.deref-2.result.now seed c.args.cycles c.clock.result
     c.in_ok-saved.ensures.texts_stay c.in_ok-saved.ensures.ok c.in_ok-spec.ensures.ok c.deref.ensures.value c.deref-2.ensures.value c.clock.ensures
