@@ -17,7 +17,7 @@ use Rattle.tis_grid.specs.State.{Grid, IsGrid, State, left_at, node_at, stack_at
 use Rattle.tis_grid.specs.Puzzle.{has_output}
 use Rattle.tis_grid.specs.Events.{bottom_of, program_of, next_tile, is_compute_at, is_memory_at, is_waiting, is_giving, has_room, has_value, is_enabled, after_event}
 use Rattle.tis_grid.specs.Choices.{events_at, those_enabled}
-use Rattle.tis_grid.specs.HeldChoices.{IsRight, IsApart, AreRenewed, events_in, tile_at, touched}
+use Rattle.tis_grid.specs.HeldChoices.{IsRight, IsApart, IsMarked, AreRenewed, events_in, tile_at, touched}
 use Rattle.tis_grid.proofs.Choosing.{events_of_tile, events_of_input, events_of_output, tile_of_input, tile_of_output}
 use Rattle.tis_grid.proofs.Places.{next_left, next_right, next_up, next_down, next_back, next_differs, some_columns}
 use Rattle.tis_grid.proofs.Starting.{twelve_tiles}
@@ -213,8 +213,8 @@ module _ (grid : Grid) (is_grid : IsGrid grid) (before : State) (event : Event) 
 -- ---- lists that were made anew
 
 -- behind an event all lists are right, once those that it concerns were made anew around what it touched
-module _ (grid : Grid) (before : State) (event : Event) (first second third : Choices) (is_grid : IsGrid grid) (were : (list : ℕ) → list < 20 → IsRight grid before first.lists list)
-    (once : AreRenewed grid (after_event grid before event) (touched grid event).0 first second) (again : AreRenewed grid (after_event grid before event) (touched grid event).1 second third) where
+module _ (grid : Grid) (before : State) (event : Event) (old new : Choices) (is_grid : IsGrid grid) (were : (list : ℕ) → list < 20 → IsRight grid before old.lists list)
+    (once : AreRenewed grid (after_event grid before event) (touched grid event).0 old new) (again : AreRenewed grid (after_event grid before event) (touched grid event).1 old new) where
   after : State
   after = after_event grid before event
 
@@ -236,7 +236,7 @@ module _ (grid : Grid) (before : State) (event : Event) (first second third : Ch
         ∙ ap (λ (events : List Event). those_enabled grid (after_event grid before event) events) (sym (events_of_tile tile within))
 
     -- the tile's list was made anew, or what it can do in a direction is as it was
-    towards : (dir : Dir) → IsRight grid (after_event grid before event) third.lists tile ⊎ SameTowards grid before (after_event grid before event) tile dir
+    towards : (dir : Dir) → IsRight grid (after_event grid before event) new.lists tile ⊎ SameTowards grid before (after_event grid before event) tile dir
     towards dir =
         elim (next_or_not (next_tile grid tile dir) (touched grid event).1) [
           | inl is ↦ elim (again.around (opposite dir) tile (back dir (touched grid event).1 is)) [
@@ -245,14 +245,14 @@ module _ (grid : Grid) (before : State) (event : Event) (first second third : Ch
           ]
           | inr other ↦ elim (next_or_not (next_tile grid tile dir) (touched grid event).0) [
             | inl is ↦ elim (once.around (opposite dir) tile (back dir (touched grid event).0 is)) [
-              | inl right ↦ inl (again.others tile right)
+              | inl right ↦ inl right
               | inr apart ↦ inr (stays dir (touched grid event).0 is apart)
             ]
             | inr another ↦ inr (same_beside grid before (after_event grid before event) tile same dir (λ next is. untouched grid before event next (another next is) (other next is)))
           ]
         ]
 
-    far_right : IsRight grid (after_event grid before event) third.lists tile
+    far_right : IsRight grid (after_event grid before event) new.lists tile
     far_right =
         elim (towards Left) [
           | inl right ↦ right
@@ -262,7 +262,7 @@ module _ (grid : Grid) (before : State) (event : Event) (first second third : Ch
               | inl there ↦ there
               | inr up ↦ elim (towards Down) [
                 | inl there ↦ there
-                | inr down ↦ again.others tile (once.others tile (were tile (omega arith) ∙ as_before tile within (events_same grid before (after_event grid before event) tile same (each left right up down))))
+                | inr down ↦ again.others tile (were tile (omega arith) ∙ as_before tile within (events_same grid before (after_event grid before event) tile same (each left right up down)))
               ]
             ]
           ]
@@ -274,12 +274,12 @@ module _ (grid : Grid) (before : State) (event : Event) (first second third : Ch
         each left right up down Up = up
         each left right up down Down = down
 
-  tile_right : (tile : ℕ) → tile < 12 → IsRight grid (after_event grid before event) third.lists tile
+  tile_right : (tile : ℕ) → tile < 12 → IsRight grid (after_event grid before event) new.lists tile
   tile_right tile within =
       elim (cases_eq tile (touched grid event).1) [
-        | inl is ↦ subst (λ (t : ℕ). IsRight grid (after_event grid before event) third.lists t) (sym is) again.here
+        | inl is ↦ subst (λ (t : ℕ). IsRight grid (after_event grid before event) new.lists t) (sym is) again.here
         | inr not_second ↦ elim (cases_eq tile (touched grid event).0) [
-          | inl is ↦ again.others tile (subst (λ (t : ℕ). IsRight grid (after_event grid before event) second.lists t) (sym is) once.here)
+          | inl is ↦ subst (λ (t : ℕ). IsRight grid (after_event grid before event) new.lists t) (sym is) once.here
           | inr not_first ↦ far_right tile within not_first not_second
         ]
       ]
@@ -292,43 +292,41 @@ module _ (grid : Grid) (before : State) (event : Event) (first second third : Ch
         | inr past ↦ output_same grid is_grid before event list past not_first not_second
       ]
 
-  port_right : (list : ℕ) → 12 ≤ list → list < 20 → IsRight grid (after_event grid before event) third.lists list
+  port_right : (list : ℕ) → 12 ≤ list → list < 20 → IsRight grid (after_event grid before event) new.lists list
   port_right list behind within =
       elim (cases_eq (tile_at list) (touched grid event).1) [
         | inl is ↦ again.ports list behind within is
         | inr not_second ↦ elim (cases_eq (tile_at list) (touched grid event).0) [
-          | inl is ↦ again.others list (once.ports list behind within is)
-          | inr not_first ↦ again.others list (once.others list (were list within ∙ port_same list behind within not_first not_second))
+          | inl is ↦ once.ports list behind within is
+          | inr not_first ↦ again.others list (were list within ∙ port_same list behind within not_first not_second)
         ]
       ]
 
-  all_right : (list : ℕ) → list < 20 → IsRight grid (after_event grid before event) third.lists list
+  all_right : (list : ℕ) → list < 20 → IsRight grid (after_event grid before event) new.lists list
   all_right list within =
       elim (below_or_not list 12) [
         | inl below ↦ tile_right list below
         | inr behind ↦ port_right list behind within
       ]
 
--- what was made anew around a tile is so around it once more
-renewed_again : (grid : Grid) (state : State) (tile : ℕ) (first second third : Choices) → third ≡ second → AreRenewed grid state tile first second → AreRenewed grid state tile second third
-renewed_again grid state tile first second third same renewed =
-    subst (λ (c : Choices). AreRenewed grid state tile second c) (sym same) (record { len = renewed.len; here = renewed.here; ports = renewed.ports; around = renewed.around; others = λ other right. right })
+-- the same, for a state and tiles that are these
+pub all_right_at : (grid : Grid) (before after : State) (event : Event) (x y : ℕ) (old new : Choices) → IsGrid grid → after ≡ after_event grid before event → x ≡ (touched grid event).0 → y ≡ (touched grid event).1 →
+    ((list : ℕ) → list < 20 → IsRight grid before old.lists list) → AreRenewed grid after x old new → AreRenewed grid after y old new →
+    (list : ℕ) → list < 20 → IsRight grid after new.lists list
+all_right_at grid before after event x y old new is_grid state x-is y-is were once again list within =
+    let once_then = subst (λ (s : State). AreRenewed grid s (touched grid event).0 old new) state (subst (λ (t : ℕ). AreRenewed grid after t old new) x-is once) in
+    let again_then = subst (λ (s : State). AreRenewed grid s (touched grid event).1 old new) state (subst (λ (t : ℕ). AreRenewed grid after t old new) y-is again) in
+    subst (λ (s : State). IsRight grid s new.lists list) (sym state) (all_right grid before event old new is_grid were once_then again_then list within)
 
--- the same, for a state and tiles that are these, of which the second one may be the first
-pub all_right_at : (grid : Grid) (before after : State) (event : Event) (x y : ℕ) (first second third : Choices) → IsGrid grid → after ≡ after_event grid before event → x ≡ (touched grid event).0 → y ≡ (touched grid event).1 →
-    ((list : ℕ) → list < 20 → IsRight grid before first.lists list) → AreRenewed grid after x first second → (x ≢ y → AreRenewed grid after y second third) → (x ≡ y → third ≡ second) →
-    (list : ℕ) → list < 20 → IsRight grid after third.lists list
-all_right_at grid before after event x y first second third is_grid state x-is y-is were once other same list within =
-    let again : AreRenewed grid after y second third = elim (cases_eq x y) [
-      | inl is ↦ subst (λ (t : ℕ). AreRenewed grid after t second third) is (renewed_again grid after x first second third (same is) once)
-      | inr apart ↦ other apart
-    ] in
-    let once_then = subst (λ (s : State). AreRenewed grid s (touched grid event).0 first second) state (subst (λ (t : ℕ). AreRenewed grid after t first second) x-is once) in
-    let again_then = subst (λ (s : State). AreRenewed grid s (touched grid event).1 second third) state (subst (λ (t : ℕ). AreRenewed grid after t second third) y-is again) in
-    subst (λ (s : State). IsRight grid s third.lists list) (sym state) (all_right grid before event first second third is_grid were once_then again_then list within)
+-- the bits of a tile that an event doesn't touch are right still
+pub still_marked : (grid : Grid) (before after : State) (event : Event) (x y marks : ℕ) → after ≡ after_event grid before event → x ≡ (touched grid event).0 → y ≡ (touched grid event).1 →
+    ((tile : ℕ) → tile < 12 → IsMarked grid before marks tile) → (tile : ℕ) → tile < 12 → tile ≢ x → tile ≢ y → IsMarked grid after marks tile
+still_marked grid before then event x y marks state x-is y-is were tile within not_x not_y =
+    let same = untouched grid before event tile (λ is. not_x (is ∙ sym x-is)) (λ is. not_y (is ∙ sym y-is)) in
+    λ dir none. ap (λ (s : State). is_giving grid s tile dir) state ∙ giving_same grid before (after_event grid before event) tile dir same ∙ were tile within dir none
 
 -- a tile that is next to one of the grid is on it too
-within_twelve : (shape : Shape) (tile next : ℕ) (dir : Dir) → shape.columns ≡ 4 → shape.rows ≡ 3 → tile < 12 → neighbour_of shape tile dir ≡ Some next → next < 12
+pub within_twelve : (shape : Shape) (tile next : ℕ) (dir : Dir) → shape.columns ≡ 4 → shape.rows ≡ 3 → tile < 12 → neighbour_of shape tile dir ≡ Some next → next < 12
 within_twelve shape tile next Left columns rows within is = let parts = next_left shape tile next is in omega (arith, parts.1)
 within_twelve shape tile next Right columns rows within is =
     let parts = next_right shape tile next is in

@@ -27,3 +27,4 @@ pub mod PuzzlePorts
 pub mod Holding
 mod Writing
 pub mod Renewed
+pub mod Marked

@@ -1,6 +1,7 @@
 //! What can happen next on a grid, in its order.
 ghost use Rattle.std.specs.Prelude.{◌≡◌, ◌<◌, ◌≤◌, ◌+◌, ◌++◌, [], ◌∷◌, ℕ, length, slice_get, Some, IsSome, IsTrue, ◌↔◌, ◌^◌, true, false};
 ghost use Rattle.tis_base.specs.declared.tiles.Dir.{Dir as AnyDir};
+ghost use Rattle.tis_node.specs.Intents.{is_local, takes_from, gives_to};
 ghost use Rattle.tis_grid.specs.declared.event.Event.TheVariants as events;
 ghost use Rattle.tis_grid.specs.Events.{is_enabled, is_waiting, is_giving};
 ghost use Rattle.arrayvec.specs.ArrayVec.{array_vec_len};
@@ -204,13 +205,21 @@ impl Grid {
         events
     }
 
-    // What a tile can do. Only what its node would do next is asked for.
-    pub(crate) fn tile_events(&self, state: &State, tile: Tile) -> ArrayVec<Event, WAYS>
+    // What a tile can do whose node would do this next. Only that is asked for.
+    pub(crate) fn events_by(
+        &self,
+        state: &State,
+        tile: Tile,
+        intent: Intent,
+    ) -> ArrayVec<Event, WAYS>
         requires fits { Fits self.now state.now.state }
         requires there { tile.number < length self.now.puzzle.tiles.kinds }
+        requires local { is_enabled self.now state.now.state (events.Local tile) ≡ is_local intent }
+        requires takes { (dir : AnyDir) → is_waiting self.now state.now.state tile.number dir ≡ takes_from intent dir }
+        requires gives { (dir : AnyDir) → is_giving self.now state.now.state tile.number dir ≡ gives_to intent dir }
         ensures { result.items ≡ those_enabled self.now state.now.state (events_at tile.number) }
     {
-        match self.intent(state, tile) {
+        match intent {
             Intent::Nothing => Grid::alone(None),
             Intent::Local => Grid::alone(Some(Event::Local(tile))),
             Intent::Takes(dir) => Grid::alone(self.pulled(state, tile, dir)),
@@ -218,6 +227,15 @@ impl Grid {
             Intent::Gives(dir) => Grid::alone(self.given_to(state, tile, dir)),
             Intent::GivesAny => self.all_given(state, tile),
         }
+    }
+
+    // What a tile can do.
+    pub(crate) fn tile_events(&self, state: &State, tile: Tile) -> ArrayVec<Event, WAYS>
+        requires fits { Fits self.now state.now.state }
+        requires there { tile.number < length self.now.puzzle.tiles.kinds }
+        ensures { result.items ≡ those_enabled self.now state.now.state (events_at tile.number) }
+    {
+        self.events_by(state, tile, self.intent(state, tile))
     }
 
     // What an input can do.

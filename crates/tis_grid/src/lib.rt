@@ -44,6 +44,7 @@ mod applying;
 mod choices;
 mod enabling;
 mod event;
+mod givers;
 mod grid;
 mod laws;
 mod nodes;

@@ -92,12 +92,13 @@ impl Grid {
         self.puzzle();
         let mut generator = Lcg64Xsh32::new(seed, 1);
         let mut choices = self.choices(state);
+        let mut givers = self.givers(state);
         for done in 0..limit {
             let Some(event) = choices.draw(&mut generator) else {
                 return Ok(Ended::Rest { done });
             };
             self.make_room(state, event)?;
-            self.step(state, &mut choices, event);
+            self.step(state, &mut choices, &mut givers, event);
         }
         if self.at_rest(state) {
             Ok(Ended::Rest { done: limit })
