@@ -28,3 +28,4 @@ pub mod Holding
 mod Writing
 pub mod Renewed
 pub mod Marked
+pub mod Counted
