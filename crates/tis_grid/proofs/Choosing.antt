@@ -8,7 +8,7 @@ use Rattle.std.proofs.Math.ListN.{get_or-append}
 use Rattle.std.proofs.lemmas.List.{take_more, take_all, flat_map_more, length-append, get_or-append-add, get_or-map, length-map}
 use Rattle.std.proofs.lemmas.List.FromFn.{fill_by_all}
 use Rattle.tis_grid.specs.HeldChoices.{events_in, tile_at, listed, AreChoices}
-use Rattle.tis_grid.specs.HeldChoices.{Choices}
+use Rattle.tis_grid.specs.declared.choices.Choices.{Choices}
 use Rattle.tis_grid.proofs.Starting.{twelve_tiles}
 use Rattle.tis_grid.specs.Drawn.{choice_of, next_of}
 use Rattle.std.proofs.lemmas.List.Concat.{get_or-flat_map}
@@ -139,7 +139,7 @@ module _ (grid : Grid) (state : State) (tile : ℕ) where
 
 -- ---- the lists one after the other
 
-abbrev pub items_of : ArrayVec Event → List Event
+abbrev items_of : ArrayVec Event → List Event
 items_of events = events.items
 
 module _ (lists : List (ArrayVec Event)) where

@@ -12,7 +12,7 @@ use Rattle.tis_asm.specs.Node.{Node, fresh, can_local, wants, offers}
 use Rattle.tis_devices.specs.Stack.{ROOM}
 use Rattle.tis_grid.specs.declared.event.Event.{Event}
 use Rattle.tis_grid.specs.declared.event.Event.TheVariants.{Local, Meet, In, Out, Push, Pop}
-use Rattle.tis_grid.specs.HeldChoices.{Choices}
+use Rattle.tis_grid.specs.declared.choices.Choices.{Choices}
 use Rattle.tis_grid.specs.State.{Grid, IsGrid, State, left_at, node_at, stack_at}
 use Rattle.tis_grid.specs.Puzzle.{has_output}
 use Rattle.tis_grid.specs.Events.{bottom_of, program_of, next_tile, is_compute_at, is_memory_at, is_waiting, is_giving, has_room, has_value, is_enabled, after_event}

@@ -28,4 +28,3 @@ pub mod Holding
 mod Writing
 pub mod Renewed
 pub mod Marked
-pub mod Counted

@@ -6,7 +6,7 @@ use Rattle.std.proofs.lemmas.Bool.{cases_eq}
 use Rattle.std.proofs.lemmas.Nat.Bits.{bit_at-lt}
 use Rattle.tis_base.specs.Tiles.{opposite}
 use Rattle.tis_base.specs.declared.tiles.Dir.{Dir}
-use Rattle.tis_grid.specs.HeldChoices.{Choices}
+use Rattle.tis_grid.specs.declared.choices.Choices.{Choices}
 use Rattle.tis_grid.specs.declared.givers.Givers.{Givers}
 use Rattle.tis_grid.specs.State.{Grid, IsGrid, State}
 use Rattle.tis_grid.specs.Events.{next_tile}

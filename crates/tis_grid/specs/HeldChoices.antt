@@ -10,21 +10,10 @@ use Rattle.tis_node.specs.declared.node.Intent.TheVariants.{Nothing, Local as Lo
 use Rattle.arrayvec.specs.ArrayVec.{ArrayVec}
 use Rattle.tis_grid.specs.declared.event.Event.TheVariants.{Local, Meet, In, Out, Push, Pop}
 use Rattle.tis_grid.specs.Events.{reached, bottom_of, next_tile, is_giving, is_memory_at}
+use Rattle.tis_grid.specs.declared.choices.Choices.{Choices}
 use Rattle.tis_grid.specs.declared.givers.Givers.{Givers}
 use Rattle.tis_grid.specs.State.{Grid, State}
 use Rattle.tis_grid.specs.Choices.{events_at, those_enabled}
-
--- the lists, as contracts see what can happen
-pub record Choices : Type 0 where
-  pub lists : List (ArrayVec Event)
-
--- beside the lists it is kept how many events they have, and a bit for each list that may have one
-pub record AreCounted (lists : List (ArrayVec Event)) (filled count : ℕ) : Type 0 where
-  pub len : length lists ≡ 20
-  pub few : (list : ℕ) → length (get_or lists list (record { items = [] })).items ≤ 4
-  pub all : count ≡ length (flat_map (λ events. events.items) lists)
-  pub empty : (list : ℕ) → list < 20 → bit_at filled list ≡ 0 → (get_or lists list (record { items = [] })).items ≡ []
-  pub within : (list : ℕ) → bit_at filled list ≡ 1 → list < 20
 
 -- all of them, one list after the other
 abbrev pub listed : Choices → List Event

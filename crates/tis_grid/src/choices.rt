@@ -1,6 +1,5 @@
 //! What can happen next on a grid, in its order.
-ghost use Rattle.std.specs.Prelude.{◌≡◌, ◌≢◌, ◌⊎◌, ◌<◌, ◌≤◌, ◌+◌, ◌++◌, [], ◌∷◌, ℕ, length, flat_map, get_or, replicate, slice_get, slice_set, Some, IsSome, IsTrue, ◌↔◌, ◌^◌, true, false};
-ghost use Rattle.std.specs.Int.{bit_at};
+ghost use Rattle.std.specs.Prelude.{◌≡◌, ◌<◌, ◌≤◌, ◌+◌, ◌++◌, [], ◌∷◌, ℕ, length, slice_get, Some, IsSome, IsTrue, ◌↔◌, ◌^◌, true, false};
 ghost use Rattle.tis_base.specs.declared.tiles.Dir.{Dir as AnyDir};
 ghost use Rattle.tis_node.specs.Intents.{is_local, takes_from, gives_to};
 ghost use Rattle.tis_grid.specs.declared.event.Event.TheVariants as events;
@@ -18,7 +17,6 @@ use crate::state::State;
 use arrayvec::ArrayVec;
 use rand_core::utils::NextWord;
 use rand_pcg::Lcg64Xsh32;
-use std::marker::Model;
 use tis_base::{Dir, Tile};
 use tis_node::Intent;
 
@@ -33,30 +31,15 @@ pub(crate) const INPUTS: u8 = 12;
 
 pub(crate) const OUTPUTS: u8 = 16;
 
-/// The events that can happen: those of each tile, of each input and of each output. Contracts see the lists.
+/// The events that can happen: those of each tile, of each input and of each output.
 #[derive(Debug, Drop)]
 pub(crate) struct Choices {
-    lists: [ArrayVec<Event, WAYS>; LISTS],
-    // A bit for each list that has an event.
-    filled: u64,
-    // How many events there are.
-    count: usize,
-}
-
-impl Model for Choices {
-    ghost use Rattle.tis_grid.specs.HeldChoices as held;
-    ghost use Rattle.tis_grid.specs.HeldChoices.{AreCounted};
-
-    ghost Value = { held.Choices };
-
-    ghost view = { λ c. record { lists = c.lists } };
-
-    ghost invariant = { λ c. AreCounted c.lists c.filled c.count };
+    pub(crate) lists: [ArrayVec<Event, WAYS>; LISTS],
 }
 
 // No event, in each list. They are written out, since a list isn't `Copy`.
 fn no_events() -> [ArrayVec<Event, WAYS>; LISTS]
-    ensures { result ≡ replicate 20 (record { items = [] }) }
+    ensures { length result ≡ 20 }
 {
     [
         ArrayVec::new(),
@@ -82,88 +65,39 @@ fn no_events() -> [ArrayVec<Event, WAYS>; LISTS]
     ]
 }
 
-// The event with an index, where a bit is set for each list that has one.
-fn event_at(lists: &[ArrayVec<Event, WAYS>], filled: u64, index: usize) -> Event
-    requires len { length lists.now ≡ 20 }
-    requires empty { (list : ℕ) → list < 20 → bit_at filled list ≡ 0 → (get_or lists.now list (record { items = [] })).items ≡ [] }
-    requires bits { (list : ℕ) → bit_at filled list ≡ 1 → list < 20 }
-    requires within { index < length (flat_map (λ events. events.items) lists.now) }
-    ensures { slice_get (flat_map (λ events. events.items) lists.now) index ≡ Some result }
-{
-    let mut rest = index;
-    let mut left = filled;
-    'lists: while left != 0 {
-        let list = left.trailing_zeros();
-        left &= !(1 << list);
-        let events = &lists[list as usize];
-        if rest < events.len() {
-            return events[rest];
-        }
-        rest -= events.len();
-    }
-    unreachable!()
-}
-
-// The bits with that of a list set, or not.
-#[inline(always)]
-fn with_bit(filled: u64, list: u32, empty: bool) -> u64
-    requires { list < 64 }
-    ensures here { ¬ IsTrue empty → bit_at result list ≡ 1 }
-    ensures others { (other : ℕ) → other < 64 → other ≢ list → bit_at result other ≡ bit_at filled other }
-    ensures within { (other : ℕ) → bit_at result other ≡ 1 → (other ≡ list) ⊎ (bit_at filled other ≡ 1) }
-{
-    if empty {
-        filled & !(1 << list)
-    } else {
-        filled | (1 << list)
-    }
-}
-
 impl Choices {
-    // No event.
-    fn none() -> Choices
-        ensures { length result.lists ≡ 20 }
-    {
-        Choices {
-            lists: no_events(),
-            filled: 0,
-            count: 0,
-        }
-    }
-
-    // These events in place of those of a list.
-    #[inline(always)]
-    pub(crate) fn put(&mut self, list: usize, events: ArrayVec<Event, WAYS>)
-        requires { list < 20 }
-        ensures lists { self.new.lists ≡ slice_set self.old.lists list events }
-        ensures len { length self.new.lists ≡ length self.old.lists }
-    {
-        let new = events.len();
-        let old = self.lists[list].len();
-        self.filled = with_bit(self.filled, list as u32, new == 0);
-        self.count = self.count - old + new;
-        self.lists[list] = events;
-    }
-
     // How many events can happen.
-    #[inline(always)]
     pub(crate) fn count(&self) -> usize
+        requires { length self.now.lists ≡ 20 }
         ensures count { result ≡ length (listed self.now) }
         ensures few { result < 2 ^ 16 }
     {
-        self.count
+        let mut count = 0;
+        for events in &self.lists {
+            count += events.len();
+        }
+        count
     }
 
     // The event with an index.
     pub(crate) fn at(&self, index: usize) -> Event
-        requires { index < length (listed self.now) }
+        requires len { length self.now.lists ≡ 20 }
+        requires within { index < length (listed self.now) }
         ensures { slice_get (listed self.now) index ≡ Some result }
     {
-        event_at(&self.lists, self.filled, index)
+        let mut left = index;
+        for events in &self.lists {
+            if left < events.len() {
+                return events[left];
+            }
+            left -= events.len();
+        }
+        unreachable!()
     }
 
     // The event that the generator's next word chooses, where one can happen. Where none can, no word is drawn.
     pub(crate) fn draw(&self, generator: &mut Lcg64Xsh32) -> Option<Event>
+        requires { length self.now.lists ≡ 20 }
         ensures event { result ≡ next_of (listed self.now) (pcg32 generator.old).0 }
         ensures word { IsSome result → generator.new ≡ (pcg32 generator.old).1 }
     {
@@ -355,11 +289,11 @@ impl Grid {
     {
         // The call tells the proof that this is a grid.
         self.puzzle();
-        let mut choices = Choices::none();
+        let mut lists = no_events();
         for list in 0..LISTS {
-            choices.put(list, self.list_events(state, list as u8));
+            lists[list] = self.list_events(state, list as u8);
         }
-        choices
+        Choices { lists }
     }
 
     /// Whether no event can happen.

@@ -83,7 +83,7 @@ impl Grid {
         ensures here { IsRight self.now state.now.state choices.new.lists tile.number }
         ensures others { (other : ℕ) → IsRight self.now state.now.state choices.old.lists other → IsRight self.now state.now.state choices.new.lists other }
     {
-        choices.put(tile.number as usize, self.events_by(state, tile, intent));
+        choices.lists[tile.number as usize] = self.events_by(state, tile, intent);
     }
 
     // Makes the list of a tile anew that didn't change itself.
@@ -110,16 +110,10 @@ impl Grid {
         ensures others { (other : ℕ) → IsRight self.now state.now.state choices.old.lists other → IsRight self.now state.now.state choices.new.lists other }
     {
         if tile.number < TOP {
-            choices.put(
-                (tile.number + INPUTS) as usize,
-                self.input_events(state, tile.number),
-            );
+            choices.lists[(tile.number + INPUTS) as usize] = self.input_events(state, tile.number);
         } else if tile.number >= BOTTOM {
             let position = tile.number - BOTTOM;
-            choices.put(
-                (position + OUTPUTS) as usize,
-                self.output_events(state, position),
-            );
+            choices.lists[(position + OUTPUTS) as usize] = self.output_events(state, position);
         }
     }
 
