@@ -1,6 +1,6 @@
 -- Bits of a number, and what they say of tiles that give.
-use Rattle.std.proofs.Common.{◌≡◌, ◌≢◌, ℕ, ◌+◌, ◌-◌, ◌*◌, ◌/◌, ◌%◌, ◌^◌, ◌<◌, ◌≤◌, true, false, Some, refl, sym, ap, ◌∙◌, subst, inl, inr, arith, w64}
-use Rattle.std.specs.Prelude.{Bool, ◌⊎◌, bit_and, bit_or, min, max, get_or, List}
+use Rattle.std.proofs.Common.{◌≡◌, ◌≢◌, ℕ, ◌+◌, ◌-◌, ◌*◌, ◌%◌, ◌^◌, ◌<◌, ◌≤◌, true, false, Some, refl, sym, ap, ◌∙◌, inl, inr, arith, w64}
+use Rattle.std.specs.Prelude.{Bool, ◌⊎◌, bit_and, bit_or, min, max}
 use Rattle.std.specs.Int.{bit_at, bit_not}
 use Rattle.std.proofs.Math.Nat.{mul-le-mul, mod-eq_of_lt, mod-lt}
 use Rattle.std.proofs.Math.Pow.{pow_mono}

@@ -1,6 +1,6 @@
 -- Lists that were made anew one behind the other.
-use Rattle.std.proofs.Common.{◌≡◌, ◌≢◌, ℕ, ◌+◌, ◌*◌, ◌/◌, ◌<◌, ◌≤◌, length, Some, inl, inr, sym, ap, subst, arith}
-use Rattle.std.specs.Prelude.{◌⊎◌, bit_and, bit_or, get_or, List}
+use Rattle.std.proofs.Common.{◌≡◌, ◌≢◌, ℕ, ◌+◌, ◌/◌, ◌<◌, ◌≤◌, length, Some, inl, inr, sym, subst, arith}
+use Rattle.std.specs.Prelude.{◌⊎◌, bit_and, bit_or, get_or}
 use Rattle.std.specs.Int.{bit_at}
 use Rattle.std.proofs.lemmas.Bool.{cases_eq}
 use Rattle.std.proofs.lemmas.Nat.Bits.{bit_at-lt}
