@@ -26,4 +26,5 @@ pub mod Returning
 pub mod PuzzlePorts
 pub mod Holding
 mod Writing
+mod TileSets
 pub mod Renewed
