@@ -74,13 +74,7 @@ fn first_half(
 // What those give that were writing and whose values weren't taken, tile by tile, and how many events there were. It stands
 // out of line, so that what is done in each cycle is short.
 #[inline(never)]
-fn give_all(
-    grid: &Grid,
-    writing: &TileSet,
-    state: &mut State,
-    trace: &mut Trace,
-    kept: bool,
-) -> u32
+fn give_all(grid: &Grid, writing: &TileSet, state: &mut State, trace: &mut Trace, kept: bool) -> u32
     requires fits { Fits grid.now state.old.state }
     requires room { HasRoomForOne grid.now state.old.spares }
     requires few { IsTrue kept → length trace.old ≤ 12 }

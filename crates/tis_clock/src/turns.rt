@@ -113,13 +113,7 @@ fn take_from_beyond(
 
 // What a tile that waits takes from a direction.
 #[inline(always)]
-fn take_from(
-    grid: &Grid,
-    writing: &TileSet,
-    state: &State,
-    tile: Tile,
-    dir: Dir,
-) -> Option<Event>
+fn take_from(grid: &Grid, writing: &TileSet, state: &State, tile: Tile, dir: Dir) -> Option<Event>
     requires fits { Fits grid.now state.now.state }
     requires there { tile.number < length grid.now.puzzle.tiles.kinds }
     requires waits { IsTrue (is_waiting grid.now state.now.state tile.number dir) }
@@ -155,13 +149,7 @@ fn take_any(
 
 // What a tile takes that was ready when the cycle began, and whose instruction needs a port.
 #[inline(always)]
-fn take(
-    grid: &Grid,
-    writing: &TileSet,
-    state: &State,
-    tile: Tile,
-    intent: Intent,
-) -> Option<Event>
+fn take(grid: &Grid, writing: &TileSet, state: &State, tile: Tile, intent: Intent) -> Option<Event>
     requires fits { Fits grid.now state.now.state }
     requires there { tile.number < length grid.now.puzzle.tiles.kinds }
     requires ready { kept_at writing.now tile.number ≡ false }
@@ -288,12 +276,7 @@ fn give_any(grid: &Grid, state: &State, tile: Tile, dirs: &[Dir]) -> Option<Even
 
 /// What a tile gives that was writing when the cycle began.
 #[inline(always)]
-pub(crate) fn give_out(
-    grid: &Grid,
-    writing: &TileSet,
-    state: &State,
-    tile: Tile,
-) -> Option<Event>
+pub(crate) fn give_out(grid: &Grid, writing: &TileSet, state: &State, tile: Tile) -> Option<Event>
     requires fits { Fits grid.now state.now.state }
     requires there { tile.number < length grid.now.puzzle.tiles.kinds }
     ensures { result ≡ cycle.gives_out grid.now (kept_at writing.now) state.now.state tile.number }

@@ -65,7 +65,7 @@ returns-clause-trace c = λ kept.
     let was = kept_at c.args.writing.now in
     let few : c.loop-tile.passed ≤ length grid.puzzle.tiles.kinds = let tiles = c.tiles_of.ensures.tiles in let twelve = c.tiles_of.ensures.few in let within = c.loop-tile.invariant.within in omega (arith, tiles, twelve, within) in
     let all = all_visited grid (reads_or_steps grid was) (turns_first grid was) c.args.kept c.args.state.now.state [] (length grid.puzzle.tiles.kinds) c.loop-tile.passed c.loop-tile.trace c.loop-tile.count c.loop-tile.state.state c.loop-tile.left c.loop-tile.invariant.done c.loop-tile.invariant.left
-        (λ other inside no. idle_first grid c.puzzle.ensures.grid was c.loop-tile.state.state other inside no) (c.in_default.ensures.none refl) few in
+    (λ other inside no. idle_first grid c.puzzle.ensures.grid was c.loop-tile.state.state other inside no) (c.in_default.ensures.none refl) few in
     c.loop-tile.invariant.done.trace_is kept ∙ sym all
 
 pub returns-clause-count : goal.returns-clause-count
@@ -74,7 +74,7 @@ returns-clause-count c =
     let was = kept_at c.args.writing.now in
     let few : c.loop-tile.passed ≤ length grid.puzzle.tiles.kinds = let tiles = c.tiles_of.ensures.tiles in let twelve = c.tiles_of.ensures.few in let within = c.loop-tile.invariant.within in omega (arith, tiles, twelve, within) in
     let all = all_visited grid (reads_or_steps grid was) (turns_first grid was) c.args.kept c.args.state.now.state [] (length grid.puzzle.tiles.kinds) c.loop-tile.passed c.loop-tile.trace c.loop-tile.count c.loop-tile.state.state c.loop-tile.left c.loop-tile.invariant.done c.loop-tile.invariant.left
-        (λ other inside no. idle_first grid c.puzzle.ensures.grid was c.loop-tile.state.state other inside no) (c.in_default.ensures.none refl) few in
+    (λ other inside no. idle_first grid c.puzzle.ensures.grid was c.loop-tile.state.state other inside no) (c.in_default.ensures.none refl) few in
     c.loop-tile.invariant.done.counted_is ∙ ap (λ (given : List Event). length given) (sym all)
 
 pub returns-clause-state : goal.returns-clause-state
@@ -83,5 +83,5 @@ returns-clause-state c =
     let was = kept_at c.args.writing.now in
     let few : c.loop-tile.passed ≤ length grid.puzzle.tiles.kinds = let tiles = c.tiles_of.ensures.tiles in let twelve = c.tiles_of.ensures.few in let within = c.loop-tile.invariant.within in omega (arith, tiles, twelve, within) in
     let all = all_visited grid (reads_or_steps grid was) (turns_first grid was) c.args.kept c.args.state.now.state [] (length grid.puzzle.tiles.kinds) c.loop-tile.passed c.loop-tile.trace c.loop-tile.count c.loop-tile.state.state c.loop-tile.left c.loop-tile.invariant.done c.loop-tile.invariant.left
-        (λ other inside no. idle_first grid c.puzzle.ensures.grid was c.loop-tile.state.state other inside no) (c.in_default.ensures.none refl) few in
+    (λ other inside no. idle_first grid c.puzzle.ensures.grid was c.loop-tile.state.state other inside no) (c.in_default.ensures.none refl) few in
     c.loop-tile.invariant.done.now_is ∙ ap (state_after grid c.args.state.now.state) (sym all)

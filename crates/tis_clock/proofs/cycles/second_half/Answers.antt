@@ -13,7 +13,7 @@ returns-then-is_empty-clause-trace c = λ kept.
     let was = kept_at c.args.writing.now in
     let now = c.args.state.now.state in
     let empty = quiet grid (gives_out grid was) (length grid.puzzle.tiles.kinds) now
-        (λ tile inside. idle_taken grid c.puzzle.ensures.grid was now tile inside (sym (ap (λ (b : Bool). was tile && b) (c.writers-now.ensures tile)) ∙ sym (c.both-still.ensures tile) ∙ c.is_empty.ensures c.if-is_empty.true tile)) in
+    (λ tile inside. idle_taken grid c.puzzle.ensures.grid was now tile inside (sym (ap (λ (b : Bool). was tile && b) (c.writers-now.ensures tile)) ∙ sym (c.both-still.ensures tile) ∙ c.is_empty.ensures c.if-is_empty.true tile)) in
     sym (ap (λ (given : List Event). c.args.trace.now ++ given) empty ∙ append-nil c.args.trace.now)
 
 pub returns-then-is_empty-clause-count : goal.returns-then-is_empty-clause-count
@@ -22,7 +22,7 @@ returns-then-is_empty-clause-count c =
     let was = kept_at c.args.writing.now in
     let now = c.args.state.now.state in
     let empty = quiet grid (gives_out grid was) (length grid.puzzle.tiles.kinds) now
-        (λ tile inside. idle_taken grid c.puzzle.ensures.grid was now tile inside (sym (ap (λ (b : Bool). was tile && b) (c.writers-now.ensures tile)) ∙ sym (c.both-still.ensures tile) ∙ c.is_empty.ensures c.if-is_empty.true tile)) in
+    (λ tile inside. idle_taken grid c.puzzle.ensures.grid was now tile inside (sym (ap (λ (b : Bool). was tile && b) (c.writers-now.ensures tile)) ∙ sym (c.both-still.ensures tile) ∙ c.is_empty.ensures c.if-is_empty.true tile)) in
     sym (ap (λ (given : List Event). length given) empty)
 
 pub returns-then-is_empty-clause-state : goal.returns-then-is_empty-clause-state
@@ -31,5 +31,5 @@ returns-then-is_empty-clause-state c =
     let was = kept_at c.args.writing.now in
     let now = c.args.state.now.state in
     let empty = quiet grid (gives_out grid was) (length grid.puzzle.tiles.kinds) now
-        (λ tile inside. idle_taken grid c.puzzle.ensures.grid was now tile inside (sym (ap (λ (b : Bool). was tile && b) (c.writers-now.ensures tile)) ∙ sym (c.both-still.ensures tile) ∙ c.is_empty.ensures c.if-is_empty.true tile)) in
+    (λ tile inside. idle_taken grid c.puzzle.ensures.grid was now tile inside (sym (ap (λ (b : Bool). was tile && b) (c.writers-now.ensures tile)) ∙ sym (c.both-still.ensures tile) ∙ c.is_empty.ensures c.if-is_empty.true tile)) in
     sym (ap (state_after grid now) empty)
