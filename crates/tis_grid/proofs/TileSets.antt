@@ -6,8 +6,9 @@ use Rattle.std.specs.List.{range_with_len}
 use Rattle.std.proofs.lemmas.Bool.{cases_eq, cases_lt}
 use Rattle.std.proofs.lemmas.List.{get_or-set_other, get_or-set_same, get_or_past, same_lists, length-set}
 use Rattle.std.proofs.lemmas.List.FromFn.{get_or-map-range_with_len}
-use Rattle.std.proofs.lemmas.Nat.Bits.{bit_at_above, bit_at-trailing_zeros, bit_at-lt, bit_at-zero, bit_at_and, bit_at_not, shr_and_one}
-use Rattle.std.proofs.lemmas.Nat.{and_le_l, or_lt}
+use Rattle.std.proofs.lemmas.Nat.Bits.{bit_at_above, bit_at-trailing_zeros, bit_at-lt, bit_at-zero, bit_at_and, bit_at_not, shr_and_one, same_from_bits, bit_at_cat_low, bit_at_cat_high, bit_at-pow_same, bit_at-pow_other, bit_at_ones_above}
+use Rattle.std.proofs.lemmas.Nat.{and_le_l, or_lt, pow_pos, shr-shr}
+use Rattle.std.proofs.Math.Nat.{pow-suc}
 use Rattle.std.proofs.Math.Pow.{pow-lt}
 use Rattle.tis_grid.specs.TileSets.{has, is_set, flags_of, IsFirst}
 
@@ -107,3 +108,57 @@ pub set_below : (bits number : ℕ) → number < 12 → bits < 2 ^ 12 → bit_or
 set_below bits number within below =
     let power : 2 ^ number < 2 ^ 12 = pow-lt within in
     or_lt 12 bits (1 * 2 ^ number % 2 ^ 32) below (omega (arith, power))
+
+-- ---- a number without its lowest bit
+
+pow_by : (t more : ℕ) → more ≡ t + 1 → 2 ^ more ≡ 2 ^ t + 2 ^ t
+pow_by t zero is = let bad : ⊥ = omega (arith, is) in absurd bad
+pow_by t (suc more) is = let step = pow-suc 2 more in let same : 2 ^ more ≡ 2 ^ t = ap (λ k. 2 ^ k) (let e : more ≡ t = omega (arith, is) in e) in omega (arith, step, same)
+
+pow_more : (t : ℕ) → 2 ^ (t + 1) ≡ 2 ^ t + 2 ^ t
+pow_more t = pow_by t (t + 1) refl
+
+min_zero : (a : ℕ) → min 0 a ≡ 0
+min_zero a = omega arith
+
+min_same : (a : ℕ) → min a a ≡ a
+min_same zero = refl
+min_same (suc a) = omega arith
+
+module _ (n t : ℕ) (one : bit_at n t ≡ 1) (least : (i : ℕ) → i < t → bit_at n i ≡ 0) where
+  in_parts : n ≡ n / 2 ^ (t + 1) * 2 ^ (t + 1) + 2 ^ t
+  in_parts =
+      let more = pow_more t in
+      let some = pow_pos t in
+      same_from_bits n (n / 2 ^ (t + 1) * 2 ^ (t + 1) + 2 ^ t)
+      (λ i. elim (cases_lt i (t + 1)) [
+        | inl low ↦ elim (cases_eq i t) [
+          | inl same ↦ ap (bit_at n) same ∙ one ∙ sym (ap (λ k. bit_at (n / 2 ^ (t + 1) * 2 ^ (t + 1) + 2 ^ t) k) same ∙ bit_at_cat_low (n / 2 ^ (t + 1)) (t + 1) (2 ^ t) t (omega arith) ∙ bit_at-pow_same t)
+          | inr other ↦ least i (omega (arith, low, other)) ∙ sym (bit_at_cat_low (n / 2 ^ (t + 1)) (t + 1) (2 ^ t) i low ∙ bit_at-pow_other t i other)
+        ]
+        | inr high ↦
+            let sum : t + 1 + (i - (t + 1)) ≡ i = omega (arith, high) in
+            sym (bit_at_cat_high (n / 2 ^ (t + 1)) (t + 1) (2 ^ t) i (omega (arith, more, some)) high ∙ ap (λ m. m % 2) (shr-shr n (t + 1) (i - (t + 1))) ∙ ap (bit_at n) sum)
+      ])
+
+  one_less_is : n - 1 ≡ n / 2 ^ (t + 1) * 2 ^ (t + 1) + (2 ^ t - 1)
+  one_less_is = let parts = in_parts in let some = pow_pos t in omega (arith, parts, some)
+
+  pub lowest_off : bit_at (bit_and n (n - 1)) t ≡ 0
+  lowest_off =
+      let off : bit_at (n - 1) t ≡ 0 = ap (λ m. bit_at m t) one_less_is ∙ bit_at_cat_low (n / 2 ^ (t + 1)) (t + 1) (2 ^ t - 1) t (omega arith) ∙ bit_at_ones_above t t (omega arith) in
+      bit_at_and n (n - 1) t ∙ ap (λ b. min b (bit_at (n - 1) t)) one ∙ ap (λ b. min 1 b) off
+
+  pub others_on : (i : ℕ) → i ≢ t → bit_at (bit_and n (n - 1)) i ≡ bit_at n i
+  others_on i other =
+      let more = pow_more t in
+      let some = pow_pos t in
+      elim (cases_lt i t) [
+        | inl low ↦ bit_at_and n (n - 1) i ∙ ap (λ b. min b (bit_at (n - 1) i)) (least i low) ∙ min_zero (bit_at (n - 1) i) ∙ sym (least i low)
+        | inr at ↦
+            let high : t + 1 ≤ i = omega (arith, at, other) in
+            let same : bit_at (n - 1) i ≡ bit_at n i =
+            ap (λ m. bit_at m i) one_less_is ∙ bit_at_cat_high (n / 2 ^ (t + 1)) (t + 1) (2 ^ t - 1) i (omega (arith, more, some)) high
+            ∙ sym (ap (λ m. bit_at m i) in_parts ∙ bit_at_cat_high (n / 2 ^ (t + 1)) (t + 1) (2 ^ t) i (omega (arith, more, some)) high) in
+            bit_at_and n (n - 1) i ∙ ap (λ b. min (bit_at n i) b) same ∙ min_same (bit_at n i)
+      ]

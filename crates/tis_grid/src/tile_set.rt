@@ -1,5 +1,6 @@
 //! Sets of tiles.
 ghost use Rattle.std.specs.Prelude.{◌≡◌, ◌≢◌, ◌<◌, ◌^◌, ◌&&◌, IsTrue, IfSome, ℕ, None, false, length, not, replicate, slice_set};
+ghost use Rattle.std.specs.Int.{trailing_zeros, w32};
 ghost use Rattle.tis_grid.specs.TileSets.{has, is_set, IsFirst};
 
 use std::marker::Model;
@@ -36,6 +37,17 @@ fn with_bit(bits: u32, number: u8, is_in: bool) -> u32
         return bits | (1u32 << number);
     }
     bits & !(1u32 << number)
+}
+
+// The bits without the lowest of them.
+#[inline(always)]
+fn without_lowest(bits: u32) -> u32
+    requires { 0 < bits }
+    ensures below { bits < 2 ^ 12 → result < 2 ^ 12 }
+    ensures here { is_set result (trailing_zeros w32 bits) ≡ false }
+    ensures others { (other : ℕ) → other < 12 → other ≢ trailing_zeros w32 bits → is_set result other ≡ is_set bits other }
+{
+    bits & (bits - 1)
 }
 
 impl TileSet {
@@ -114,7 +126,7 @@ impl TileSet {
         let tile = Tile {
             number: self.bits.trailing_zeros() as u8,
         };
-        self.bits = with_bit(self.bits, tile.number, false);
+        self.bits = without_lowest(self.bits);
         Some(tile)
     }
 }
