@@ -10,3 +10,4 @@ pub mod Halves
 pub mod Room
 pub mod Same
 pub mod Runs
+mod Visiting

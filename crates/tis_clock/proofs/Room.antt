@@ -121,6 +121,10 @@ IsLeft grid tile old new = ((position : ℕ) → tile ≤ bottom_of grid positio
 pub all_left : (grid : Grid) (spares : List (Option ℕ)) → IsLeft grid 0 spares spares
 all_left grid spares = ((λ position behind. omega arith), (λ position. omega arith))
 
+-- a later tile is next
+pub later_left : (grid : Grid) (tile later : ℕ) (old new : List (Option ℕ)) → IsLeft grid tile old new → tile ≤ later → IsLeft grid later old new
+later_left grid tile later old new left from = ((λ position behind. left.0 position (omega (arith, behind, from))), left.1)
+
 -- the output below the tile has room
 pub room_below : (grid : Grid) (now : State) (tile : ℕ) (old new : List (Option ℕ)) (event : Event) → HasRoomForOne grid old → IsLeft grid tile old new → IsEnabled grid now event → GivesBelow grid tile event → HasRoom new event
 room_below grid now tile old new (Local at) room left can gives = tt

@@ -8,9 +8,9 @@ ghost use Rattle.tis_clock.specs.Turns.{kept_at, acts, HasRoomForOne};
 
 use crate::acting::act;
 use crate::trace::Trace;
-use crate::turns::{COUNT, TILES, any_was_writing, give_out, read_or_step, writers};
-use tis_base::{NoMemory, Tile};
-use tis_grid::{Ended, Event, Grid, State};
+use crate::turns::{COUNT, give_out, read_or_step, writers};
+use tis_base::NoMemory;
+use tis_grid::{Ended, Event, Grid, State, TileSet};
 
 // How many tiles a grid has.
 #[inline(always)]
@@ -40,7 +40,7 @@ fn number_of(chosen: Option<Event>) -> u32
 #[inline(always)]
 fn first_half(
     grid: &Grid,
-    writing: &[bool; TILES],
+    writing: &TileSet,
     state: &mut State,
     trace: &mut Trace,
     kept: bool,
@@ -54,11 +54,19 @@ fn first_half(
     ensures spares { state.new.spares ≡ state.old.spares }
     ensures fits { Fits grid.now state.new.state }
 {
+    // The calls tell the proof that this is a grid, and how many tiles it has.
+    grid.puzzle();
+    tiles_of(grid);
+    let working = grid.working();
+    let mut left = working.without(writing);
+    // The tiles below this number had their turn.
+    let mut passed = 0;
     let mut count = 0;
-    for number in 0..tiles_of(grid) {
-        let chosen = read_or_step(grid, writing, state, Tile { number });
+    while let Some(tile) = left.take_first() {
+        let chosen = read_or_step(grid, writing, state, tile);
         trace.add(chosen, kept);
         count += number_of(chosen);
+        passed = tile.number + 1;
     }
     count
 }
@@ -66,13 +74,7 @@ fn first_half(
 // What those give that were writing and whose values weren't taken, tile by tile, and how many events there were. It stands
 // out of line, so that what is done in each cycle is short.
 #[inline(never)]
-fn give_all(
-    grid: &Grid,
-    writing: &[bool; TILES],
-    state: &mut State,
-    trace: &mut Trace,
-    kept: bool,
-) -> u32
+fn give_all(grid: &Grid, writing: &TileSet, state: &mut State, trace: &mut Trace, kept: bool) -> u32
     requires fits { Fits grid.now state.old.state }
     requires room { HasRoomForOne grid.now state.old.spares }
     requires few { IsTrue kept → length trace.old ≤ 12 }
@@ -83,22 +85,29 @@ fn give_all(
     ensures spares { LowersBy 1 state.old.spares state.new.spares }
     ensures fits { Fits grid.now state.new.state }
 {
+    // The calls tell the proof that this is a grid, and how many tiles it has.
+    grid.puzzle();
+    tiles_of(grid);
+    let mut left = writing.copy();
+    // The tiles below this number had their turn.
+    let mut passed = 0;
     let mut count = 0;
-    for number in 0..tiles_of(grid) {
-        let chosen = give_out(grid, writing, state, Tile { number });
+    while let Some(tile) = left.take_first() {
+        let chosen = give_out(grid, writing, state, tile);
         act(grid, state, chosen);
         trace.add(chosen, kept);
         count += number_of(chosen);
+        passed = tile.number + 1;
     }
     count
 }
 
 // What those give that were writing and whose values weren't taken, tile by tile, and how many events there were: none, where
-// nobody was writing.
+// nobody writes any more that was writing.
 #[inline(always)]
 fn second_half(
     grid: &Grid,
-    writing: &[bool; TILES],
+    writing: &TileSet,
     state: &mut State,
     trace: &mut Trace,
     kept: bool,
@@ -113,7 +122,11 @@ fn second_half(
     ensures spares { LowersBy 1 state.old.spares state.new.spares }
     ensures fits { Fits grid.now state.new.state }
 {
-    if !any_was_writing(writing) {
+    // The call tells the proof that this is a grid.
+    grid.puzzle();
+    let now = writers(state);
+    let still = writing.both(&now);
+    if still.is_empty() {
         return 0;
     }
     give_all(grid, writing, state, trace, kept)

@@ -2,24 +2,21 @@
 ghost use Rattle.std.specs.Prelude.{◌≡◌, ◌<◌, ◌∷◌, [], length, flat_map, IsTrue, Some, None, false, ◌&&◌};
 ghost use Rattle.tis_base.specs.declared.tiles.Dir.{Dir as AnyDir};
 ghost use Rattle.tis_base.specs.declared.tiles.Dir.TheVariants.{Down};
-ghost use Rattle.std.specs.List.{find, list_any};
+ghost use Rattle.std.specs.List.{find};
 ghost use Rattle.tis_grid.specs.Orders.{Fits};
 ghost use Rattle.tis_node.specs.Intents.{takes_from};
 ghost use Rattle.tis_grid.specs.declared.event.Event.TheVariants as event;
-ghost use Rattle.tis_grid.specs.Events.{is_enabled, is_giving, is_waiting, next_tile};
+ghost use Rattle.tis_grid.specs.Events.{is_compute_at, is_enabled, is_giving, is_waiting, next_tile};
 ghost use Rattle.tis_clock.specs.Cycle.{state_after};
 ghost use Rattle.tis_clock.specs.Cycle as cycle;
 ghost use Rattle.tis_clock.specs.Turns.{kept_at, acts, Keeps};
 
 use crate::acting::act;
 use tis_base::{Dir, Tile};
-use tis_grid::{Event, Grid, State};
+use tis_grid::{Event, Grid, State, TileSet};
 use tis_node::Intent;
 
 /// How many tiles a grid has.
-pub(crate) const TILES: usize = 12;
-
-/// The same, as tiles are numbered.
 pub(crate) const COUNT: u8 = 12;
 
 // The number of the first tile of the bottom row.
@@ -27,38 +24,31 @@ const BOTTOM: u8 = 8;
 
 /// Which tiles are writing.
 #[inline(always)]
-pub(crate) fn writers(state: &State) -> [bool; TILES]
+pub(crate) fn writers(state: &State) -> TileSet
     ensures { Keeps result state.now.state }
 {
     state.writers()
 }
 
-/// Whether any tile was writing when the cycle began.
-#[inline(always)]
-pub(crate) fn any_was_writing(writing: &[bool; TILES]) -> bool
-    ensures { result ≡ list_any (λ writes. writes) writing.now }
-{
-    writing.iter().any(|writes| *writes)
-}
-
 // Whether a tile was writing when the cycle began.
 #[inline(always)]
-fn was_writing(writing: &[bool; TILES], tile: Tile) -> bool
+fn was_writing(grid: &Grid, writing: &TileSet, tile: Tile) -> bool
+    requires { tile.number < length grid.now.puzzle.tiles.kinds }
     ensures { result ≡ kept_at writing.now tile.number }
 {
-    match writing.get(tile.number as usize) {
-        Some(writes) => *writes,
-        None => false,
-    }
+    // The call tells the proof how many tiles there are.
+    grid.puzzle().tiles.shape();
+    writing.has(tile)
 }
 
 // Whether a tile gives a value to a port that it was writing already when the cycle began.
 #[inline(always)]
-fn gives_old(grid: &Grid, writing: &[bool; TILES], state: &State, giver: Tile, dir: Dir) -> bool
+fn gives_old(grid: &Grid, writing: &TileSet, state: &State, giver: Tile, dir: Dir) -> bool
     requires fits { Fits grid.now state.now.state }
+    requires there { giver.number < length grid.now.puzzle.tiles.kinds }
     ensures { result ≡ (kept_at writing.now giver.number && is_giving grid.now state.now.state giver.number dir) }
 {
-    if !was_writing(writing, giver) {
+    if !was_writing(grid, writing, giver) {
         return false;
     }
     grid.is_giving(state, giver, dir)
@@ -69,7 +59,7 @@ fn gives_old(grid: &Grid, writing: &[bool; TILES], state: &State, giver: Tile, d
 #[inline(always)]
 fn take_from_next(
     grid: &Grid,
-    writing: &[bool; TILES],
+    writing: &TileSet,
     state: &State,
     tile: Tile,
     dir: Dir,
@@ -79,6 +69,7 @@ fn take_from_next(
     requires there { tile.number < length grid.now.puzzle.tiles.kinds }
     requires waits { IsTrue (is_waiting grid.now state.now.state tile.number dir) }
     requires next { next_tile grid.now tile.number dir ≡ Some next.number }
+    requires beside { next.number < length grid.now.puzzle.tiles.kinds }
     ensures { result ≡ cycle.first_way grid.now (kept_at writing.now) state.now.state (cycle.ways_to_take grid.now tile.number dir) }
 {
     // The call tells the proof that this is a grid.
@@ -96,7 +87,7 @@ fn take_from_next(
 #[inline(always)]
 fn take_from_beyond(
     grid: &Grid,
-    writing: &[bool; TILES],
+    writing: &TileSet,
     state: &State,
     tile: Tile,
     dir: Dir,
@@ -122,13 +113,7 @@ fn take_from_beyond(
 
 // What a tile that waits takes from a direction.
 #[inline(always)]
-fn take_from(
-    grid: &Grid,
-    writing: &[bool; TILES],
-    state: &State,
-    tile: Tile,
-    dir: Dir,
-) -> Option<Event>
+fn take_from(grid: &Grid, writing: &TileSet, state: &State, tile: Tile, dir: Dir) -> Option<Event>
     requires fits { Fits grid.now state.now.state }
     requires there { tile.number < length grid.now.puzzle.tiles.kinds }
     requires waits { IsTrue (is_waiting grid.now state.now.state tile.number dir) }
@@ -143,7 +128,7 @@ fn take_from(
 // What a tile that waits for any port takes, from the first of these directions from which anything comes.
 fn take_any(
     grid: &Grid,
-    writing: &[bool; TILES],
+    writing: &TileSet,
     state: &State,
     tile: Tile,
     dirs: &[Dir],
@@ -164,13 +149,7 @@ fn take_any(
 
 // What a tile takes that was ready when the cycle began, and whose instruction needs a port.
 #[inline(always)]
-fn take(
-    grid: &Grid,
-    writing: &[bool; TILES],
-    state: &State,
-    tile: Tile,
-    intent: Intent,
-) -> Option<Event>
+fn take(grid: &Grid, writing: &TileSet, state: &State, tile: Tile, intent: Intent) -> Option<Event>
     requires fits { Fits grid.now state.now.state }
     requires there { tile.number < length grid.now.puzzle.tiles.kinds }
     requires ready { kept_at writing.now tile.number ≡ false }
@@ -197,7 +176,7 @@ fn take(
 #[inline(always)]
 fn read(
     grid: &Grid,
-    writing: &[bool; TILES],
+    writing: &TileSet,
     state: &mut State,
     tile: Tile,
     intent: Intent,
@@ -217,27 +196,26 @@ fn read(
     taken
 }
 
-/// What a tile does that was ready when the cycle began.
+/// What a compute tile does that was ready when the cycle began.
 #[inline(always)]
 pub(crate) fn read_or_step(
     grid: &Grid,
-    writing: &[bool; TILES],
+    writing: &TileSet,
     state: &mut State,
     tile: Tile,
 ) -> Option<Event>
     requires fits { Fits grid.now state.old.state }
     requires there { tile.number < length grid.now.puzzle.tiles.kinds }
+    requires ready { kept_at writing.now tile.number ≡ false }
+    requires computes { IsTrue (is_compute_at grid.now tile.number) }
     ensures chosen { result ≡ cycle.reads_or_steps grid.now (kept_at writing.now) state.old.state tile.number }
     ensures state { state.new.state ≡ state_after grid.now state.old.state (acts result) }
     ensures spares { state.new.spares ≡ state.old.spares }
     ensures fits { Fits grid.now state.new.state }
 {
-    if was_writing(writing, tile) {
-        return None;
-    }
     // The call tells the proof that this is a grid.
     grid.puzzle();
-    let intent = grid.advance(state, tile);
+    let intent = grid.advance_node(state, tile);
     if intent.is_local() {
         return Some(Event::Local(tile));
     }
@@ -298,17 +276,12 @@ fn give_any(grid: &Grid, state: &State, tile: Tile, dirs: &[Dir]) -> Option<Even
 
 /// What a tile gives that was writing when the cycle began.
 #[inline(always)]
-pub(crate) fn give_out(
-    grid: &Grid,
-    writing: &[bool; TILES],
-    state: &State,
-    tile: Tile,
-) -> Option<Event>
+pub(crate) fn give_out(grid: &Grid, writing: &TileSet, state: &State, tile: Tile) -> Option<Event>
     requires fits { Fits grid.now state.now.state }
     requires there { tile.number < length grid.now.puzzle.tiles.kinds }
     ensures { result ≡ cycle.gives_out grid.now (kept_at writing.now) state.now.state tile.number }
 {
-    if !was_writing(writing, tile) {
+    if !was_writing(grid, writing, tile) {
         return None;
     }
     // The call tells the proof that this is a grid.

@@ -26,5 +26,6 @@ pub mod Returning
 pub mod PuzzlePorts
 pub mod Holding
 mod Writing
+mod TileSets
 pub mod Renewed
 pub mod Marked

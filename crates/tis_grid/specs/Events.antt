@@ -34,6 +34,10 @@ is_compute_at grid tile = is_compute (get_or grid.puzzle.tiles.kinds tile Damage
 abbrev pub is_memory_at : Grid → ℕ → Bool
 is_memory_at grid tile = is_memory (get_or grid.puzzle.tiles.kinds tile Damaged)
 
+-- whether a tile is there, computes, and has a program
+abbrev pub works : Grid → ℕ → Bool
+works grid tile = is_compute_at grid tile && nat_lt 0 (length (program_of grid tile))
+
 -- whether a compute tile waits for a value from this port
 abbrev pub is_waiting : Grid → State → ℕ → Dir → Bool
 is_waiting grid state tile dir = is_compute_at grid tile && wants (program_of grid tile) (node_at state tile) dir

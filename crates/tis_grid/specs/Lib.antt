@@ -1,5 +1,6 @@
 pub mod Puzzle
 pub mod State
+pub mod TileSets
 pub mod Events
 pub mod Orders
 pub mod TileSteps

@@ -3,7 +3,7 @@ ghost use Rattle.std.specs.Prelude.{◌≡◌, ◌≢◌, ◌<◌, IsTrue, IsSom
 ghost use Rattle.tis_asm.specs.Node as table;
 ghost use Rattle.tis_grid.specs.State as at;
 ghost use Rattle.tis_grid.specs.declared.event.Event.TheVariants as events;
-ghost use Rattle.tis_grid.specs.Events.{IsEnabled, is_enabled, is_waiting, is_giving, after_event, program_of, offered, reached, took, given, next_tile};
+ghost use Rattle.tis_grid.specs.Events.{IsEnabled, is_enabled, is_waiting, is_giving, is_compute_at, after_event, program_of, offered, reached, took, given, next_tile};
 ghost use Rattle.tis_grid.specs.Orders.{Fits};
 ghost use Rattle.tis_base.specs.declared.tiles.Dir.{Dir as AnyDir};
 ghost use Rattle.tis_node.specs.Intents.{is_local, takes_from, gives_to};
@@ -51,6 +51,25 @@ impl Grid {
         if !self.is_compute(tile) {
             return Intent::Nothing;
         }
+        self.advance_node(state, tile)
+    }
+
+    /// The same of a compute tile.
+    #[inline(always)]
+    pub fn advance_node(&self, state: &mut State, tile: Tile) -> Intent
+        requires fits { Fits self.now state.old.state }
+        requires there { tile.number < length self.now.puzzle.tiles.kinds }
+        requires computes { IsTrue (is_compute_at self.now tile.number) }
+        ensures local { is_enabled self.now state.old.state (events.Local tile) ≡ is_local result }
+        ensures takes { (dir : AnyDir) → is_waiting self.now state.old.state tile.number dir ≡ takes_from result dir }
+        ensures gives { (dir : AnyDir) → is_giving self.now state.old.state tile.number dir ≡ gives_to result dir }
+        ensures steps { IsTrue (is_local result) → state.new.state ≡ after_event self.now state.old.state (events.Local tile) }
+        ensures stays { ¬ IsTrue (is_local result) → state.new.state ≡ state.old.state }
+        ensures spares { state.new.spares ≡ state.old.spares }
+        ensures fits { Fits self.now state.new.state }
+    {
+        // The call tells the proof that this is a grid.
+        self.puzzle();
         state.advance(tile, self.decoded(tile))
     }
 

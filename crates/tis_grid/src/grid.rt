@@ -9,17 +9,19 @@ ghost use Rattle.tis_base.specs.Tiles.{IsOnGrid};
 ghost use Rattle.tis_asm.specs.Programs.{IsSound, program_at};
 ghost use Rattle.tis_grid.specs.Puzzle.{puzzle_of, has_output, has_input};
 ghost use Rattle.tis_grid.specs.State as at;
-ghost use Rattle.tis_grid.specs.Events.{is_enabled};
+ghost use Rattle.tis_grid.specs.Events.{is_enabled, works};
 ghost use Rattle.tis_grid.specs.Orders.{Fits, IsAtRest};
-ghost use Rattle.tis_grid.specs.HeldGrid.{place_of, input_values};
+ghost use Rattle.tis_grid.specs.HeldGrid.{place_of, input_values, works_on};
+ghost use Rattle.tis_grid.specs.TileSets.{has};
 
 use crate::event::Event;
 use crate::puzzle::{InputAt, OutputAt, Puzzle};
 use crate::state::{COLUMNS, State, TILES, no_stacks};
+use crate::tile_set::TileSet;
 use std::alloc::Global;
 use std::marker::Model;
 use tis_asm::Programs;
-use tis_base::{Dir, NoMemory, Tile, Values};
+use tis_base::{Dir, NoMemory, Tile, TileKind, Tiles, Values};
 use tis_node::{Decoded, Node};
 
 /// A puzzle, and a program for each of its tiles. Contracts see the two.
@@ -31,6 +33,8 @@ pub struct Grid {
     pub(crate) decoded: [Decoded; TILES],
     // The index of the input at each position.
     input_at: [Option<usize>; COLUMNS],
+    // The tiles whose node has a program.
+    working: TileSet,
 }
 
 impl Model for Grid {
@@ -42,7 +46,7 @@ impl Model for Grid {
 
     ghost view = { λ g. record { puzzle = puzzle_of g.puzzle; programs = g.programs.programs } };
 
-    ghost invariant = { λ g. IsHeldGrid g.puzzle g.programs g.decoded g.input_at };
+    ghost invariant = { λ g. IsHeldGrid g.puzzle g.programs g.decoded g.input_at g.working };
 }
 
 // The index of the input at a position.
@@ -98,6 +102,33 @@ fn decode_all(programs: &Programs) -> [Decoded; TILES]
     ]
 }
 
+// Whether a tile has a node with a program.
+fn works_at(tiles: &Tiles, programs: &Programs, tile: Tile) -> bool
+    requires kinds { tile.number < length tiles.now.kinds }
+    requires programs { IsOnGrid programs.now.tiles tile.number }
+    ensures { result ≡ works_on tiles.now.kinds programs.now.programs tile.number }
+{
+    if !matches!(tiles.kind(tile), TileKind::Compute) {
+        return false;
+    }
+    0 < programs.of(tile).len()
+}
+
+// The tiles that have a node with a program.
+fn working_tiles(tiles: &Tiles, programs: &Programs) -> TileSet
+    requires { programs.now.tiles ≡ tiles.now }
+    ensures { (tile : ℕ) → has result tile ≡ works_on tiles.now.kinds programs.now.programs tile }
+{
+    // The call tells the proof how many tiles there are.
+    tiles.shape();
+    let mut working = TileSet::empty();
+    for number in 0..12u8 {
+        let tile = Tile { number };
+        working.put(tile, works_at(tiles, programs, tile));
+    }
+    working
+}
+
 impl Grid {
     /// The grid of a puzzle and programs for its tiles.
     pub fn new(puzzle: Puzzle, programs: Programs) -> Grid
@@ -118,11 +149,13 @@ impl Grid {
             input_at[position] = index_of(&puzzle.inputs, position as u8);
         }
         let decoded = decode_all(&programs);
+        let working = working_tiles(&puzzle.tiles, &programs);
         Grid {
             puzzle,
             programs,
             decoded,
             input_at,
+            working,
         }
     }
 
@@ -142,6 +175,14 @@ impl Grid {
         ensures grid { at.IsGrid self.now }
     {
         &self.programs
+    }
+
+    /// The tiles whose node has a program; no other ever does anything.
+    #[inline(always)]
+    pub fn working(&self) -> TileSet
+        ensures { (tile : ℕ) → has result tile ≡ works self.now tile }
+    {
+        self.working.copy()
     }
 
     // The values of the input at a position.
@@ -194,7 +235,7 @@ impl Grid {
         self.puzzle.tiles.shape();
         Ok(State {
             nodes: [Node::fresh(); TILES],
-            writing: [false; TILES],
+            writing: TileSet::empty(),
             stacks: no_stacks(),
             left: [
                 self.input_len(0),

@@ -53,6 +53,7 @@ mod puzzle;
 mod renewing;
 mod running;
 mod state;
+mod tile_set;
 
 pub use event::Event;
 pub use grid::Grid;
@@ -64,3 +65,4 @@ pub use point::Point;
 pub use puzzle::{InputAt, OutKind, OutputAt, Puzzle, is_picture};
 pub use running::{Ended, OrderError};
 pub use state::State;
+pub use tile_set::TileSet;

@@ -10,6 +10,7 @@ ghost use Rattle.tis_grid.specs.HeldState as held;
 ghost use Rattle.tis_grid.specs.Events.{with_node};
 
 use crate::state::{State, TILES};
+use crate::tile_set::TileSet;
 use tis_asm::Program;
 use tis_base::{Dir, Tile, Value};
 use tis_node::{Decoded, Intent, Mode, Node};
@@ -26,12 +27,12 @@ fn writes(node: &Node) -> bool
 }
 
 /// Which of these nodes write.
-pub(crate) fn writers_of(nodes: &[Node; TILES]) -> [bool; TILES]
+pub(crate) fn writers_of(nodes: &[Node; TILES]) -> TileSet
     ensures { result ≡ map held.writes (map node_view nodes.now) }
 {
-    let mut writing = [false; TILES];
-    for tile in 0..TILES {
-        writing[tile] = writes(&nodes[tile]);
+    let mut writing = TileSet::empty();
+    for number in 0..12u8 {
+        writing.put(Tile { number }, writes(&nodes[number as usize]));
     }
     writing
 }
@@ -97,7 +98,8 @@ impl State {
     {
         let index = tile.number as usize;
         take_at(&mut self.nodes, index, program, dir, value);
-        self.writing[index] = writes(&self.nodes[index]);
+        let writes = writes(&self.nodes[index]);
+        self.writing.put(tile, writes);
     }
 
     // The node of a tile gave its value to a port.
@@ -111,7 +113,8 @@ impl State {
     {
         let index = tile.number as usize;
         gave_at(&mut self.nodes, index, program, dir);
-        self.writing[index] = writes(&self.nodes[index]);
+        let writes = writes(&self.nodes[index]);
+        self.writing.put(tile, writes);
     }
 
     // Makes the step of the node of a tile, where it can make one without a port, and tells what it would do.
@@ -128,7 +131,14 @@ impl State {
     {
         let index = tile.number as usize;
         let intent = advance_at(&mut self.nodes, index, decoded);
-        self.writing[index] = writes(&self.nodes[index]);
+        if !intent.is_local() {
+            return intent;
+        }
+        // It was ready, so that nothing changes in the set where it doesn't begin to write.
+        if !writes(&self.nodes[index]) {
+            return intent;
+        }
+        self.writing.put(tile, true);
         intent
     }
 }

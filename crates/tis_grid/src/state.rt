@@ -11,6 +11,7 @@ ghost use Rattle.tis_grid.specs.Points.{point_of, returned, HasTaken, CanReturn,
 
 use crate::nodes::writers_of;
 use crate::point::Point;
+use crate::tile_set::TileSet;
 use std::marker::Model;
 use tis_base::{NoMemory, Tile, Value, Values};
 use tis_devices::Stack;
@@ -29,7 +30,7 @@ pub(crate) const COLUMNS: usize = 4;
 pub struct State {
     pub(crate) nodes: [Node; TILES],
     // Which of the nodes write.
-    pub(crate) writing: [bool; TILES],
+    pub(crate) writing: TileSet,
     pub(crate) stacks: [Stack; TILES],
     pub(crate) left: [Option<usize>; COLUMNS],
     pub(crate) outs: [Option<Values>; COLUMNS],
@@ -240,12 +241,12 @@ impl State {
         self.nodes[tile.number as usize]
     }
 
-    /// Which of the nodes write, by tile.
+    /// Which of the nodes write.
     #[inline(always)]
-    pub fn writers(&self) -> [bool; TILES]
+    pub fn writers(&self) -> TileSet
         ensures { result ≡ map writes self.now.state.nodes }
     {
-        self.writing
+        self.writing.copy()
     }
 
     /// The stack of a memory tile.

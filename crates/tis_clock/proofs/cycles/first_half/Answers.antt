@@ -1,51 +1,87 @@
--- Each tile takes its turn.
-use Rattle.std.proofs.Common.{ℕ, [], ◌<◌, ◌≤◌, length, sym, ap, subst, ◌∙◌, arith, List, refl}
+-- Each tile takes its turn that has a node with a program and wasn't writing; no other does anything.
+use Rattle.std.proofs.Common.{◌≡◌, ℕ, [], ◌+◌, ◌<◌, ◌≤◌, Bool, List, length, refl, sym, ap, subst, ◌∙◌, arith}
+use Rattle.std.specs.Prelude.{◌&&◌, not}
 use Rattle.tis_grid.specs.declared.event.Event.{Event}
 use Rattle.tis_clock.specs.Cycle.{reads_or_steps, state_after}
 use Rattle.tis_clock.specs.Turns.{kept_at}
-use Rattle.tis_clock.proofs.Halves.{Done, one_more, whole, none_done}
+use Rattle.tis_clock.proofs.Halves.{Done, none_done}
+use Rattle.tis_clock.proofs.Visiting.{AreLeft, not_passed, is_wanted, one_less, visited, all_visited, turns_first, first_wants, idle_first}
 use Rattle.tis_clock.proofs.cycles.first_half.Goals as goal
 
-pub loop-number-init : goal.loop-number-init
-loop-number-init c =
+pub loop-tile-init : goal.loop-tile-init
+loop-tile-init c =
     let grid = c.args.grid.now in
     record {
       fits = c.requires.fits;
       spares = refl;
+      within = omega arith;
       few = omega arith;
+      left = record {
+        ahead = λ tile from. c.without-left.ensures tile ∙ ap (λ (b : Bool). b && not (kept_at c.args.writing.now tile)) (c.working-working.ensures tile);
+        behind = λ tile before. let bad : ⊥ = omega (arith, before) in absurd bad;
+      };
       done = subst (λ (trace : List Event). Done grid (reads_or_steps grid (kept_at c.args.writing.now)) c.args.kept c.args.state.now.state [] (length grid.puzzle.tiles.kinds) 0 trace 0 c.args.state.now.state)
           (sym c.requires.empty) (none_done grid (reads_or_steps grid (kept_at c.args.writing.now)) c.args.kept c.args.state.now.state [] (length grid.puzzle.tiles.kinds));
     }
 
-pub loop-number-preserved : goal.loop-number-preserved
-loop-number-preserved c =
+pub read_or_step-chosen-requires-clause-there : goal.read_or_step-chosen-requires-clause-there
+read_or_step-chosen-requires-clause-there c =
+    let tiles = c.tiles_of.ensures.tiles in
+    let few = c.tiles_of.ensures.few in
+    let within = c.in-Some.ensures.first.within in
+    omega (arith, tiles, few, within)
+
+pub read_or_step-chosen-requires-clause-ready : goal.read_or_step-chosen-requires-clause-ready
+read_or_step-chosen-requires-clause-ready c =
+    (first_wants c.args.grid.now (kept_at c.args.writing.now) _ (is_wanted (turns_first c.args.grid.now (kept_at c.args.writing.now)) c.loop-tile.passed c.loop-tile.left c.loop-tile.invariant.left _ c.in-Some.ensures.first)).1
+
+pub read_or_step-chosen-requires-clause-computes : goal.read_or_step-chosen-requires-clause-computes
+read_or_step-chosen-requires-clause-computes c =
+    (first_wants c.args.grid.now (kept_at c.args.writing.now) _ (is_wanted (turns_first c.args.grid.now (kept_at c.args.writing.now)) c.loop-tile.passed c.loop-tile.left c.loop-tile.invariant.left _ c.in-Some.ensures.first)).0
+
+pub loop-tile-preserved : goal.loop-tile-preserved
+loop-tile-preserved c =
     let grid = c.args.grid.now in
     let was = kept_at c.args.writing.now in
+    let tile = c.in-Some.tile.number in
+    let first = c.in-Some.ensures.first in
+    let within = first.within in
+    let from = not_passed (turns_first grid was) c.loop-tile.passed c.loop-tile.left c.loop-tile.invariant.left tile first in
+    let there : tile < length grid.puzzle.tiles.kinds = let tiles = c.tiles_of.ensures.tiles in let few = c.tiles_of.ensures.few in omega (arith, tiles, few, within) in
     record {
       fits = c.read_or_step-chosen.ensures.fits;
-      spares = c.read_or_step-chosen.ensures.spares ∙ c.loop-number.invariant.spares;
-      few = let had = c.loop-number.invariant.few in let one = c.number_of-count.ensures.one in omega (arith, had, one);
-      done = one_more grid (reads_or_steps grid was) c.args.kept c.args.state.now.state [] (length grid.puzzle.tiles.kinds) c.loop-number.number c.loop-number.trace c.loop-number.count c.loop-number.state.state c.read_or_step-chosen.result c.add.new.self c.number_of-count.result c.read_or_step-chosen.new.state.state
-          c.loop-number.invariant.done (subst (λ (n : ℕ). c.loop-number.number < n) c.tiles_of-number-end.ensures.tiles c.loop-number-test.true) c.read_or_step-chosen.ensures.chosen c.add.ensures c.number_of-count.ensures.number c.read_or_step-chosen.ensures.state;
+      spares = c.read_or_step-chosen.ensures.spares ∙ c.loop-tile.invariant.spares;
+      within = omega (arith, within);
+      few = let had = c.loop-tile.invariant.few in let one = c.number_of-count.ensures.one in omega (arith, had, one, from);
+      left = subst (AreLeft (turns_first grid was) (tile + 1)) (sym c.in-Some.ensures.others) (one_less (turns_first grid was) c.loop-tile.passed c.loop-tile.left c.loop-tile.invariant.left tile first);
+      done = visited grid (reads_or_steps grid was) (turns_first grid was) c.args.kept c.args.state.now.state [] (length grid.puzzle.tiles.kinds) c.loop-tile.passed c.loop-tile.trace c.loop-tile.count c.loop-tile.state.state c.loop-tile.left c.loop-tile.invariant.done c.loop-tile.invariant.left
+          (λ other inside no. idle_first grid c.puzzle.ensures.grid was c.loop-tile.state.state other inside no)
+          tile c.read_or_step-chosen.result c.add.new.self c.number_of-count.result c.read_or_step-chosen.new.state.state first there c.read_or_step-chosen.ensures.chosen c.add.ensures c.number_of-count.ensures.number c.read_or_step-chosen.ensures.state;
     }
 
 pub returns-clause-trace : goal.returns-clause-trace
 returns-clause-trace c = λ kept.
     let grid = c.args.grid.now in
-    let past : length grid.puzzle.tiles.kinds ≤ c.loop-number.number = let tiles = c.tiles_of-number-end.ensures.tiles in let end = c.loop-number-test.false in omega (arith, tiles, end) in
-    c.loop-number.invariant.done.trace_is kept
-    ∙ sym (whole grid (reads_or_steps grid (kept_at c.args.writing.now)) c.args.kept c.args.state.now.state [] (length grid.puzzle.tiles.kinds) c.loop-number.number c.loop-number.trace c.loop-number.count c.loop-number.state.state c.loop-number.invariant.done past)
+    let was = kept_at c.args.writing.now in
+    let few : c.loop-tile.passed ≤ length grid.puzzle.tiles.kinds = let tiles = c.tiles_of.ensures.tiles in let twelve = c.tiles_of.ensures.few in let within = c.loop-tile.invariant.within in omega (arith, tiles, twelve, within) in
+    let all = all_visited grid (reads_or_steps grid was) (turns_first grid was) c.args.kept c.args.state.now.state [] (length grid.puzzle.tiles.kinds) c.loop-tile.passed c.loop-tile.trace c.loop-tile.count c.loop-tile.state.state c.loop-tile.left c.loop-tile.invariant.done c.loop-tile.invariant.left
+    (λ other inside no. idle_first grid c.puzzle.ensures.grid was c.loop-tile.state.state other inside no) (c.in_default.ensures.none refl) few in
+    c.loop-tile.invariant.done.trace_is kept ∙ sym all
 
 pub returns-clause-count : goal.returns-clause-count
 returns-clause-count c =
     let grid = c.args.grid.now in
-    let past : length grid.puzzle.tiles.kinds ≤ c.loop-number.number = let tiles = c.tiles_of-number-end.ensures.tiles in let end = c.loop-number-test.false in omega (arith, tiles, end) in
-    c.loop-number.invariant.done.counted_is
-    ∙ ap (λ (given : List Event). length given) (sym (whole grid (reads_or_steps grid (kept_at c.args.writing.now)) c.args.kept c.args.state.now.state [] (length grid.puzzle.tiles.kinds) c.loop-number.number c.loop-number.trace c.loop-number.count c.loop-number.state.state c.loop-number.invariant.done past))
+    let was = kept_at c.args.writing.now in
+    let few : c.loop-tile.passed ≤ length grid.puzzle.tiles.kinds = let tiles = c.tiles_of.ensures.tiles in let twelve = c.tiles_of.ensures.few in let within = c.loop-tile.invariant.within in omega (arith, tiles, twelve, within) in
+    let all = all_visited grid (reads_or_steps grid was) (turns_first grid was) c.args.kept c.args.state.now.state [] (length grid.puzzle.tiles.kinds) c.loop-tile.passed c.loop-tile.trace c.loop-tile.count c.loop-tile.state.state c.loop-tile.left c.loop-tile.invariant.done c.loop-tile.invariant.left
+    (λ other inside no. idle_first grid c.puzzle.ensures.grid was c.loop-tile.state.state other inside no) (c.in_default.ensures.none refl) few in
+    c.loop-tile.invariant.done.counted_is ∙ ap (λ (given : List Event). length given) (sym all)
 
 pub returns-clause-state : goal.returns-clause-state
 returns-clause-state c =
     let grid = c.args.grid.now in
-    let past : length grid.puzzle.tiles.kinds ≤ c.loop-number.number = let tiles = c.tiles_of-number-end.ensures.tiles in let end = c.loop-number-test.false in omega (arith, tiles, end) in
-    c.loop-number.invariant.done.now_is
-    ∙ ap (state_after grid c.args.state.now.state) (sym (whole grid (reads_or_steps grid (kept_at c.args.writing.now)) c.args.kept c.args.state.now.state [] (length grid.puzzle.tiles.kinds) c.loop-number.number c.loop-number.trace c.loop-number.count c.loop-number.state.state c.loop-number.invariant.done past))
+    let was = kept_at c.args.writing.now in
+    let few : c.loop-tile.passed ≤ length grid.puzzle.tiles.kinds = let tiles = c.tiles_of.ensures.tiles in let twelve = c.tiles_of.ensures.few in let within = c.loop-tile.invariant.within in omega (arith, tiles, twelve, within) in
+    let all = all_visited grid (reads_or_steps grid was) (turns_first grid was) c.args.kept c.args.state.now.state [] (length grid.puzzle.tiles.kinds) c.loop-tile.passed c.loop-tile.trace c.loop-tile.count c.loop-tile.state.state c.loop-tile.left c.loop-tile.invariant.done c.loop-tile.invariant.left
+    (λ other inside no. idle_first grid c.puzzle.ensures.grid was c.loop-tile.state.state other inside no) (c.in_default.ensures.none refl) few in
+    c.loop-tile.invariant.done.now_is ∙ ap (state_after grid c.args.state.now.state) (sym all)

@@ -24,5 +24,6 @@ invariant_of-result c =
       };
       tiles = c.requires.tiles;
       same = c.decode_all-decoded.ensures;
+      works = c.working_tiles-working.ensures;
       inputs = λ at below. let before : at < c.loop-position.position = omega arith in c.loop-position.invariant.1 at before;
     }

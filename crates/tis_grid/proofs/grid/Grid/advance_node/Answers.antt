@@ -11,14 +11,14 @@ use Rattle.tis_grid.specs.Events.{program_of, is_compute_at, with_node, is_enabl
 use Rattle.tis_grid.specs.Orders.{Fits}
 use Rattle.tis_grid.proofs.Enabled.{enabled_parts}
 use Rattle.tis_grid.proofs.Fitting.{event_fitting}
-use Rattle.tis_grid.proofs.grid.Grid.advance.Goals as goal
+use Rattle.tis_grid.proofs.grid.Grid.advance_node.Goals as goal
 
 pub returns-clause-fits : goal.returns-clause-fits
 returns-clause-fits c =
     let grid = c.args.self.now in
     let state = c.args.state.now.state in
     let tile = c.args.tile.number in
-    let compute : is_compute_at grid tile ≡ true = sym c.is_compute.ensures.is ∙ c.if-not-is_compute.false in
+    let compute : is_compute_at grid tile ≡ true = c.requires.computes in
     let can : can_local (program_of grid tile) (node_at state tile) ≡ is_local c.advance.result =
     ap (λ (p : List MarkedInstr). can_local p (node_at state tile)) (sym c.decoded.ensures.program) ∙ c.advance.ensures.local in
     elim (is_local c.advance.result) as (λ (b : Bool). is_local c.advance.result ≡ b → Fits grid c.advance.new.self.state) [
