@@ -1,4 +1,4 @@
-//! The rows: a chunk, what its `f` gives, and the units of the call, or the fault with its line.
+//! The rows: a chunk, in which `@` stands for the end of a line, what its `f` gives, and the units of the call, or the fault with its line.
 
 /// Values, names, tables and calls.
 pub fn nodes() -> &'static str {
@@ -119,6 +119,15 @@ function f() for i = 1, 2 do local b = i end return b end|nil|12
 "
 }
 
+/// Draws with the seed 1: the generator's words are those of PCG XSH RR 64/32 on its stream 1.
+pub fn draws() -> &'static str {
+    "\
+function f() return math.random(1000000) end|787149|4
+function f() return math.random(-9007199254740992, 9007199254740992) end|5172806606127104|6
+function f() return math.random(0, 9) .. math.random(0, 9) .. math.random(0, 9) end|\"707\"|13
+"
+}
+
 /// What is made plain.
 pub fn plain_values() -> &'static str {
     "\
@@ -177,6 +186,17 @@ function f() local s = \"x\" for i = 1, 11 do s = s .. s end return s end|LongSt
 function f() return f() end|TooDeepCalls 1
 function g(n) if n == 1 then return 1 end return g(n - 1) end function f() return g(100) end|TooDeepCalls 1
 x = 1 + nil function f() return 1 end|TypeFault 1
+function f() return 5 / 0 end|Inexact 1
+function f() return g() end|UnknownName 1
+function f()@local t@= 1@+@nil@end|TypeFault 4
+function f()@return@g@(@)@end|UnknownName 3
+function f()@return math@.@floor@(@1 ..@nil)@end|TypeFault 6
+function f()@local t@return t@[@1@]@end|TypeFault 4
+function f()@local t@t@.@x@=@1@end|TypeFault 4
+function f()@for@i@=@1, 2, 0@do end@end|OutOfRange 2
+function f()@return@7@/@2@end|Inexact 4
+@x@=@-@nil@function f() return 1 end|TypeFault 4
+function g()@return@{}@<@{}@end@function f()@return g()@end|TypeFault 4
 "
 }
 

@@ -67,6 +67,19 @@ fn fault(alloc: Global, why: LuaError) -> Result<String, AllocError> {
     }
 }
 
+/// A row with its ends of lines.
+fn lined(alloc: Global, row: &str) -> Result<String, AllocError> {
+    let mut text = String::new(alloc);
+    for byte in row.as_bytes() {
+        if *byte == b'@' {
+            text.push('\n')?;
+        } else {
+            text.push(char::from(*byte))?;
+        }
+    }
+    Ok(text)
+}
+
 /// The value and the cost.
 fn given(alloc: Global, called: &Called) -> Result<String, AllocError> {
     let value = shown(alloc, &called.value, 5)?;
@@ -94,8 +107,9 @@ fn answer_of_text(alloc: Global, text: &str) -> Result<String, AllocError> {
 
 fn all_answer(rt: &impl Abort, alloc: Global, rows: &str) -> Result<(), AllocError> {
     for row in rows.lines() {
-        if let Some((text, wanted)) = row.split_once('|') {
-            let found = answer_of_text(alloc, text)?;
+        if let Some((chunk, wanted)) = row.split_once('|') {
+            let text = lined(alloc, chunk)?;
+            let found = answer_of_text(alloc, text.as_str())?;
             assert_eq!(rt; found.as_str(), wanted);
         }
     }
@@ -108,6 +122,7 @@ fn expressions_give_their_values_at_their_costs(rt: HostRuntime) -> Result<(), F
     all_answer(&rt, rt.alloc(), rows::unary())?;
     all_answer(&rt, rt.alloc(), rows::binary())?;
     all_answer(&rt, rt.alloc(), rows::libraries())?;
+    all_answer(&rt, rt.alloc(), rows::draws())?;
     all_answer(&rt, rt.alloc(), rows::plain_values())?;
     Ok(())
 }
@@ -122,6 +137,26 @@ fn statements_and_limits_do_so_too(rt: HostRuntime) -> Result<(), Fail> {
 #[test]
 fn each_fault_has_its_line(rt: HostRuntime) -> Result<(), Fail> {
     all_answer(&rt, rt.alloc(), rows::faults())?;
+    Ok(())
+}
+
+/// A function that gives a text of so many bytes.
+fn chunk_of_bytes(alloc: Global, count: usize) -> Result<String, AllocError> {
+    let mut text = String::from_str(alloc, "function f() return #\"")?;
+    for _ in 0..count {
+        text.push('x')?;
+    }
+    text.push_str("\" end")?;
+    Ok(text)
+}
+
+#[test]
+fn a_text_that_is_written_out_has_at_most_1024_bytes(rt: HostRuntime) -> Result<(), Fail> {
+    for (count, wanted) in [(1024, "1024|4"), (1025, "LongString 1")] {
+        let text = chunk_of_bytes(rt.alloc(), count)?;
+        let found = answer_of_text(rt.alloc(), text.as_str())?;
+        assert_eq!(rt; found.as_str(), wanted);
+    }
     Ok(())
 }
 

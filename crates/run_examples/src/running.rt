@@ -1,9 +1,11 @@
+use lua_syntax::LuaSyntax;
 use std::alloc::Global;
 use std::test::Fail;
 use tis_asm::AsmError;
 use tis_base::{MemSink, MemStore, NoMemory, Sink, Value, Values};
 use tis_cli::{Refusal, Status, describe, tool};
 use tis_grid_text::GridTextError;
+use tis_puzzle::{PuzzleError, Wanted};
 use tis_save::SaveError;
 
 // A save that passes the values of a column on, and a grid for it.
@@ -204,8 +206,13 @@ fn a_text_that_is_refused_is_told_with_its_line(rt: HostRuntime) -> Result<(), F
         ),
         (
             (b"@x".as_slice(), b"".as_slice(), b"x".as_slice()),
-            Refusal::Grid(GridTextError::BadLine { line: 1 }),
-            b"refused Grid BadLine 1".as_slice(),
+            Refusal::Puzzle(PuzzleError::NoFunction { name: Wanted::Name }),
+            b"refused Puzzle NoFunction Name".as_slice(),
+        ),
+        (
+            (S, b"function f(".as_slice(), b"x".as_slice()),
+            Refusal::Syntax(LuaSyntax::Syntax { line: 1 }),
+            b"refused Syntax Syntax 1".as_slice(),
         ),
         (
             (S, G, b"in 9".as_slice()),

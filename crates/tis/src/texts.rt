@@ -113,8 +113,9 @@ eight seeds, in their order, up to the first for which it doesn't. The outputs a
 1, 2 cycles and so on, up to LIMIT, and the first number of cycles that decides gives the verdict:
 wrong, where an output has another value than is wanted; extra, where it has more values than are
 wanted; passed, where each output is as wanted; stuck, where nothing more can happen; and late, where
-LIMIT cycles weren't enough. LIMIT is at most 10000000. SEED is a number below 2^64, for puzzles that
-are drawn; a grid text is the same for each.
+LIMIT cycles weren't enough. LIMIT is at most 10000000. SPEC is a grid text, or a specification in Lua,
+whose functions are called with SEED, a number below 2^64, and give the puzzle; a grid text is the same
+for each.
 
 reads   SAVE, SPEC
 writes  a report to standard output, where the status is 0 or 1
@@ -134,7 +135,9 @@ status
        not a command
   3  a text is refused: SPEC, and then SAVE over its tiles
        $ tis grade column.save column.save 6 1
-       refused Grid BadLine 1
+       refused Syntax Syntax 1
+       $ tis grade differences.save forty_values.lua 1000 1
+       refused Puzzle BadStreams 2
   4  a file isn't there
        $ tis grade no_such_file two_values.grid 6 1
        missing
@@ -150,9 +153,9 @@ status
 const RUN: &str = "\
 tis run SAVE SPEC SEED CYCLES
 
-Runs the save in the file SAVE over the grid text in the file SPEC, cycle by cycle, up to the first
-after which nothing more can happen, or up to CYCLES of them, which is at most 10000000. SEED is a
-number below 2^64, for specifications that are drawn; a grid text is the same for each.
+Runs the save in the file SAVE over the specification in the file SPEC, cycle by cycle, up to the first
+after which nothing more can happen, or up to CYCLES of them, which is at most 10000000. SPEC is a grid
+text, or Lua whose functions are called with SEED, a number below 2^64; a grid text is the same for each.
 
 reads   SAVE, SPEC
 writes  a report of the outputs to standard output, where the status is 0 or 8
@@ -167,7 +170,7 @@ status
        not a command
   3  a text is refused: SPEC, and then SAVE over its tiles
        $ tis run column.save column.save 0 100
-       refused Grid BadLine 1
+       refused Syntax Syntax 1
   4  a file isn't there
        $ tis run no_such_file two_values.grid 0 100
        missing
@@ -188,10 +191,10 @@ status
 const ORDER: &str = "\
 tis order SAVE SPEC SEED ORDERSEED LIMIT
 
-Runs the save in the file SAVE over the grid text in the file SPEC in an order of its events that is
-drawn with ORDERSEED, until nothing more can happen, or up to LIMIT events, which is at most 10000000.
-SEED and ORDERSEED are numbers below 2^64. SEED is for specifications that are drawn; a grid text is
-the same for each.
+Runs the save in the file SAVE over the specification in the file SPEC in an order of its events that
+is drawn with ORDERSEED, until nothing more can happen, or up to LIMIT events, which is at most 10000000.
+SPEC is a grid text, or Lua whose functions are called with SEED; a grid text is the same for each. SEED
+and ORDERSEED are numbers below 2^64.
 
 reads   SAVE, SPEC
 writes  a report of the outputs to standard output, where the status is 0 or 8
@@ -206,7 +209,7 @@ status
        not a command
   3  a text is refused: SPEC, and then SAVE over its tiles
        $ tis order column.save column.save 0 1 100
-       refused Grid BadLine 1
+       refused Syntax Syntax 1
   4  a file isn't there
        $ tis order no_such_file two_values.grid 0 1 100
        missing
@@ -227,9 +230,9 @@ status
 const REPLAY: &str = "\
 tis replay SAVE SPEC SEED EVENTS
 
-Runs the save in the file SAVE over the grid text in the file SPEC by the events in the file EVENTS,
-one after the other. SEED is a number below 2^64, for specifications that are drawn; a grid text is
-the same for each.
+Runs the save in the file SAVE over the specification in the file SPEC by the events in the file EVENTS,
+one after the other. SPEC is a grid text, or Lua whose functions are called with SEED, a number below
+2^64; a grid text is the same for each.
 
 reads   SAVE, SPEC, EVENTS
 writes  a report of the outputs to standard output, where the status is 0, and where it is 3 for an
@@ -266,7 +269,7 @@ status
 const DEBUG: &str = "\
 tis debug SAVE SPEC SEED SCRIPT
 
-Goes through the cycles of the save in the file SAVE over the grid text in the file SPEC, as the
+Goes through the cycles of the save in the file SAVE over the specification in the file SPEC, as the
 script in the file SCRIPT says, line by line:
 
   step N     does N cycles, at most 1000000, and fewer where nothing more can happen before
@@ -275,7 +278,8 @@ script in the file SCRIPT says, line by line:
   back N     takes the last N cycles back, of the last 64
   show       shows each node and stack, what is left of the inputs, and the outputs
 
-SEED is a number below 2^64, for specifications that are drawn; a grid text is the same for each.
+SPEC is a grid text, or Lua whose functions are called with SEED, a number below 2^64; a grid text is
+the same for each.
 
 reads   SAVE, SPEC, SCRIPT
 writes  what each line of the script comes to, to standard output, where the status is 0

@@ -1,5 +1,5 @@
 -- What was fetched for a command, and what it comes to.
-use Rattle.std.proofs.Common.{◌≡◌, ℕ, List, [], ◌∷◌, Option, Some, Result, Ok, Err, refl, sym, ap, ◌∙◌}
+use Rattle.std.proofs.Common.{◌≡◌, ℕ, List, [], ◌∷◌, Option, Some, Result, Ok, Err, refl, sym, ap, subst, ◌∙◌}
 use Rattle.std.specs.Prelude.{IfSome}
 use Rattle.tis_base.specs.Outside.{Texts, text_at}
 use Rattle.tis_cli.specs.declared.status.Status.{Status}
@@ -7,6 +7,9 @@ use Rattle.tis_cli.specs.declared.status.Status.TheVariants.{Done, NotPassed, Wo
 use Rattle.tis_cli.specs.declared.runs.Run.{Run}
 use Rattle.tis_cli.specs.Answers.{Answer, Refuses, Makes}
 use Rattle.tis_cli.specs.Commands.{Command, Network, Run as ByClock, Order, Replay, Grade, fetched, ComesTo, Debug}
+use Rattle.tis_grid.specs.Puzzle.{Puzzle}
+use Rattle.tis_spec.specs.Specification.{Refusal as SpecRefusal, Specifies}
+use Rattle.tis_spec.proofs.Given.{each_gives}
 use Rattle.tis_cli.specs.Nets.{net_answer}
 use Rattle.tis_cli.specs.Runs.{run_answer, order_answer, replay_answer, grade_answer, debug_answer}
 use Rattle.tis_cli.specs.Ends.{Ends}
@@ -35,12 +38,14 @@ told_under : (told now : Option Texts) (name text : List ℕ) → now ≡ told �
 told_under told now name text same fetched texts is = told_is now (λ (t : Texts). text_at t name ≡ Some text) fetched texts (same ∙ is)
 
 -- two texts that were fetched
-pub clock_runs : (told second : Option Texts) (save spec saved read : List ℕ) (saved_seen read_seen : List ℕ) (seed cycles : ℕ) (result : Result Run Status) → second ≡ told → IfSome told (λ texts. text_at texts save ≡ Some saved) → IfSome second (λ texts. text_at texts spec ≡ Some read) → saved_seen ≡ saved → read_seen ≡ read → Ends result (run_answer saved_seen read_seen cycles) → Runs (ByClock save spec seed cycles) told result
+pub clock_runs : (told second : Option Texts) (save spec saved read saved_seen read_seen : List ℕ) (seed cycles : ℕ) (result : Result Run Status) → second ≡ told → IfSome told (λ texts. text_at texts save ≡ Some saved) → IfSome second (λ texts. text_at texts spec ≡ Some read) → saved_seen ≡ saved → read_seen ≡ read →
+    ((given : Result Puzzle SpecRefusal) → Specifies read_seen seed given → Ends result (run_answer saved_seen given cycles)) → Runs (ByClock save spec seed cycles) told result
 clock_runs told second save spec saved read saved_seen read_seen seed cycles result stay first next saved_is read_is ends =
-    comes_to_run (ByClock save spec seed cycles) told (saved ∷ read ∷ []) (run_answer saved_seen read_seen cycles) result
+    let gives = each_gives read seed in
+    comes_to_run (ByClock save spec seed cycles) told (saved ∷ read ∷ []) (run_answer saved gives.0 cycles) result
     (λ texts is. one_more texts save saved (spec ∷ []) (read ∷ []) (told_under told told save saved refl first texts is) (one_more texts spec read [] [] (told_under told second spec read stay next texts is) refl))
-    (λ other same. same ∙ ap (λ (b : List ℕ). run_answer b read_seen cycles) saved_is ∙ ap (λ (b : List ℕ). run_answer saved b cycles) read_is)
-    ends
+    (λ other same. (gives.0, gives.1, same))
+    (subst (λ (b : List ℕ). Ends result (run_answer b gives.0 cycles)) saved_is (ends gives.0 (subst (λ (b : List ℕ). Specifies b seed gives.0) (sym read_is) gives.1)))
 
 pub net_runs : (told second : Option Texts) (net grid read given : List ℕ) (read_seen given_seen : List ℕ) (result : Result Run Status) → second ≡ told → IfSome told (λ texts. text_at texts net ≡ Some read) → IfSome second (λ texts. text_at texts grid ≡ Some given) → read_seen ≡ read → given_seen ≡ given → Ends result (net_answer read_seen given_seen) → Runs (Network net grid) told result
 net_runs told second net grid read given read_seen given_seen result stay first next read_is given_is ends =
@@ -49,31 +54,62 @@ net_runs told second net grid read given read_seen given_seen result stay first 
     (λ other same. same ∙ ap (λ (b : List ℕ). net_answer b given_seen) read_is ∙ ap (λ (b : List ℕ). net_answer read b) given_is)
     ends
 
-pub order_runs : (told second : Option Texts) (save spec saved read : List ℕ) (saved_seen read_seen : List ℕ) (seed order_seed limit : ℕ) (result : Result Run Status) → second ≡ told → IfSome told (λ texts. text_at texts save ≡ Some saved) → IfSome second (λ texts. text_at texts spec ≡ Some read) → saved_seen ≡ saved → read_seen ≡ read → Ends result (order_answer saved_seen read_seen order_seed limit) → Runs (Order save spec seed order_seed limit) told result
+pub order_runs : (told second : Option Texts) (save spec saved read saved_seen read_seen : List ℕ) (seed order_seed limit : ℕ) (result : Result Run Status) → second ≡ told → IfSome told (λ texts. text_at texts save ≡ Some saved) → IfSome second (λ texts. text_at texts spec ≡ Some read) → saved_seen ≡ saved → read_seen ≡ read →
+    ((given : Result Puzzle SpecRefusal) → Specifies read_seen seed given → Ends result (order_answer saved_seen given order_seed limit)) → Runs (Order save spec seed order_seed limit) told result
 order_runs told second save spec saved read saved_seen read_seen seed order_seed limit result stay first next saved_is read_is ends =
-    comes_to_run (Order save spec seed order_seed limit) told (saved ∷ read ∷ []) (order_answer saved_seen read_seen order_seed limit) result
+    let gives = each_gives read seed in
+    comes_to_run (Order save spec seed order_seed limit) told (saved ∷ read ∷ []) (order_answer saved gives.0 order_seed limit) result
     (λ texts is. one_more texts save saved (spec ∷ []) (read ∷ []) (told_under told told save saved refl first texts is) (one_more texts spec read [] [] (told_under told second spec read stay next texts is) refl))
-    (λ other same. same ∙ ap (λ (b : List ℕ). order_answer b read_seen order_seed limit) saved_is ∙ ap (λ (b : List ℕ). order_answer saved b order_seed limit) read_is)
-    ends
+    (λ other same. (gives.0, gives.1, same))
+    (subst (λ (b : List ℕ). Ends result (order_answer b gives.0 order_seed limit)) saved_is (ends gives.0 (subst (λ (b : List ℕ). Specifies b seed gives.0) (sym read_is) gives.1)))
 
-pub grade_runs : (told second : Option Texts) (save spec saved read : List ℕ) (saved_seen read_seen : List ℕ) (limit : ℕ) (seeds : List ℕ) (result : Result Run Status) → second ≡ told → IfSome told (λ texts. text_at texts save ≡ Some saved) → IfSome second (λ texts. text_at texts spec ≡ Some read) → saved_seen ≡ saved → read_seen ≡ read → Ends result (grade_answer saved_seen read_seen limit seeds) → Runs (Grade save spec limit seeds) told result
+pub grade_runs : (told second : Option Texts) (save spec saved read saved_seen read_seen : List ℕ) (limit : ℕ) (seeds : List ℕ) (result : Result Run Status) → second ≡ told → IfSome told (λ texts. text_at texts save ≡ Some saved) → IfSome second (λ texts. text_at texts spec ≡ Some read) → saved_seen ≡ saved → read_seen ≡ read →
+    ((given : ℕ → Result Puzzle SpecRefusal) → ((each : ℕ) → Specifies read_seen each (given each)) → Ends result (grade_answer saved_seen given limit seeds)) → Runs (Grade save spec limit seeds) told result
 grade_runs told second save spec saved read saved_seen read_seen limit seeds result stay first next saved_is read_is ends =
-    comes_to_run (Grade save spec limit seeds) told (saved ∷ read ∷ []) (grade_answer saved_seen read_seen limit seeds) result
+    let given : ℕ → Result Puzzle SpecRefusal = λ seed. (each_gives read seed).0 in
+    let gives : (seed : ℕ) → Specifies read seed (given seed) = λ seed. (each_gives read seed).1 in
+    comes_to_run (Grade save spec limit seeds) told (saved ∷ read ∷ []) (grade_answer saved given limit seeds) result
     (λ texts is. one_more texts save saved (spec ∷ []) (read ∷ []) (told_under told told save saved refl first texts is) (one_more texts spec read [] [] (told_under told second spec read stay next texts is) refl))
-    (λ other same. same ∙ ap (λ (b : List ℕ). grade_answer b read_seen limit seeds) saved_is ∙ ap (λ (b : List ℕ). grade_answer saved b limit seeds) read_is)
-    ends
+    (λ other same. (given, gives, same))
+    (subst (λ (b : List ℕ). Ends result (grade_answer b given limit seeds)) saved_is (ends given (subst (λ (b : List ℕ). (each : ℕ) → Specifies b each (given each)) (sym read_is) gives)))
 
 -- three texts that were fetched
-pub replay_runs : (told second third : Option Texts) (save spec events saved read listed : List ℕ) (saved_seen read_seen listed_seen : List ℕ) (seed : ℕ) (result : Result Run Status) → second ≡ told → third ≡ second → IfSome told (λ texts. text_at texts save ≡ Some saved) → IfSome second (λ texts. text_at texts spec ≡ Some read) → IfSome third (λ texts. text_at texts events ≡ Some listed) → saved_seen ≡ saved → read_seen ≡ read → listed_seen ≡ listed → Ends result (replay_answer saved_seen read_seen listed_seen) → Runs (Replay save spec seed events) told result
+pub replay_runs : (told second third : Option Texts) (save spec events saved read listed saved_seen read_seen listed_seen : List ℕ) (seed : ℕ) (result : Result Run Status) → second ≡ told → third ≡ second → IfSome told (λ texts. text_at texts save ≡ Some saved) → IfSome second (λ texts. text_at texts spec ≡ Some read) → IfSome third (λ texts. text_at texts events ≡ Some listed) → saved_seen ≡ saved → read_seen ≡ read → listed_seen ≡ listed →
+    ((given : Result Puzzle SpecRefusal) → Specifies read_seen seed given → Ends result (replay_answer saved_seen given listed_seen)) → Runs (Replay save spec seed events) told result
 replay_runs told second third save spec events saved read listed saved_seen read_seen listed_seen seed result stay again first next last saved_is read_is listed_is ends =
-    comes_to_run (Replay save spec seed events) told (saved ∷ read ∷ listed ∷ []) (replay_answer saved_seen read_seen listed_seen) result
+    let gives = each_gives read seed in
+    comes_to_run (Replay save spec seed events) told (saved ∷ read ∷ listed ∷ []) (replay_answer saved gives.0 listed) result
     (λ texts is. one_more texts save saved (spec ∷ events ∷ []) (read ∷ listed ∷ []) (told_under told told save saved refl first texts is) (one_more texts spec read (events ∷ []) (listed ∷ []) (told_under told second spec read stay next texts is) (one_more texts events listed [] [] (told_under told third events listed (again ∙ stay) last texts is) refl)))
-    (λ other same. same ∙ ap (λ (b : List ℕ). replay_answer b read_seen listed_seen) saved_is ∙ ap (λ (b : List ℕ). replay_answer saved b listed_seen) read_is ∙ ap (λ (b : List ℕ). replay_answer saved read b) listed_is)
-    ends
+    (λ other same. (gives.0, gives.1, same))
+    (subst (λ (b : List ℕ). Ends result (replay_answer b gives.0 listed)) saved_is (subst (λ (b : List ℕ). Ends result (replay_answer saved_seen gives.0 b)) listed_is (ends gives.0 (subst (λ (b : List ℕ). Specifies b seed gives.0) (sym read_is) gives.1))))
 
-pub debug_runs : (told second third : Option Texts) (save spec script saved read listed : List ℕ) (saved_seen read_seen listed_seen : List ℕ) (seed : ℕ) (result : Result Run Status) → second ≡ told → third ≡ second → IfSome told (λ texts. text_at texts save ≡ Some saved) → IfSome second (λ texts. text_at texts spec ≡ Some read) → IfSome third (λ texts. text_at texts script ≡ Some listed) → saved_seen ≡ saved → read_seen ≡ read → listed_seen ≡ listed → Ends result (debug_answer saved_seen read_seen listed_seen) → Runs (Debug save spec seed script) told result
+pub debug_runs : (told second third : Option Texts) (save spec script saved read listed saved_seen read_seen listed_seen : List ℕ) (seed : ℕ) (result : Result Run Status) → second ≡ told → third ≡ second → IfSome told (λ texts. text_at texts save ≡ Some saved) → IfSome second (λ texts. text_at texts spec ≡ Some read) → IfSome third (λ texts. text_at texts script ≡ Some listed) → saved_seen ≡ saved → read_seen ≡ read → listed_seen ≡ listed →
+    ((given : Result Puzzle SpecRefusal) → Specifies read_seen seed given → Ends result (debug_answer saved_seen given listed_seen)) → Runs (Debug save spec seed script) told result
 debug_runs told second third save spec script saved read listed saved_seen read_seen listed_seen seed result stay again first next last saved_is read_is listed_is ends =
-    comes_to_run (Debug save spec seed script) told (saved ∷ read ∷ listed ∷ []) (debug_answer saved_seen read_seen listed_seen) result
+    let gives = each_gives read seed in
+    comes_to_run (Debug save spec seed script) told (saved ∷ read ∷ listed ∷ []) (debug_answer saved gives.0 listed) result
     (λ texts is. one_more texts save saved (spec ∷ script ∷ []) (read ∷ listed ∷ []) (told_under told told save saved refl first texts is) (one_more texts spec read (script ∷ []) (listed ∷ []) (told_under told second spec read stay next texts is) (one_more texts script listed [] [] (told_under told third script listed (again ∙ stay) last texts is) refl)))
-    (λ other same. same ∙ ap (λ (b : List ℕ). debug_answer b read_seen listed_seen) saved_is ∙ ap (λ (b : List ℕ). debug_answer saved b listed_seen) read_is ∙ ap (λ (b : List ℕ). debug_answer saved read b) listed_is)
-    ends
+    (λ other same. (gives.0, gives.1, same))
+    (subst (λ (b : List ℕ). Ends result (debug_answer b gives.0 listed)) saved_is (subst (λ (b : List ℕ). Ends result (debug_answer saved_seen gives.0 b)) listed_is (ends gives.0 (subst (λ (b : List ℕ). Specifies b seed gives.0) (sym read_is) gives.1))))
+
+-- what a specification gives is there, so what follows from it is no fault of the store
+module _ (spec : List ℕ) (seed : ℕ) (follows : Result Puzzle SpecRefusal → Answer) where
+  pub not_missing : (result : Result Run Status) → ((given : Result Puzzle SpecRefusal) → Specifies spec seed given → Ends result (follows given)) → result ≡ Err Missing → ⊥
+  not_missing result ends is = let gives = each_gives spec seed in subst (λ (r : Result Run Status). Ends r (follows gives.0)) is (ends gives.0 gives.1)
+
+  pub not_faulted : (result : Result Run Status) → ((given : Result Puzzle SpecRefusal) → Specifies spec seed given → Ends result (follows given)) → result ≡ Err StoreFault → ⊥
+  not_faulted result ends is = let gives = each_gives spec seed in subst (λ (r : Result Run Status). Ends r (follows gives.0)) is (ends gives.0 gives.1)
+
+-- and so with each seed
+module _ (spec : List ℕ) (follows : (ℕ → Result Puzzle SpecRefusal) → Answer) where
+  abbrev given_by : ℕ → Result Puzzle SpecRefusal
+  given_by seed = (each_gives spec seed).0
+
+  gives_by : (seed : ℕ) → Specifies spec seed (given_by seed)
+  gives_by seed = (each_gives spec seed).1
+
+  pub never_missing : (result : Result Run Status) → ((given : ℕ → Result Puzzle SpecRefusal) → ((seed : ℕ) → Specifies spec seed (given seed)) → Ends result (follows given)) → result ≡ Err Missing → ⊥
+  never_missing result ends is = subst (λ (r : Result Run Status). Ends r (follows given_by)) is (ends given_by gives_by)
+
+  pub never_faulted : (result : Result Run Status) → ((given : ℕ → Result Puzzle SpecRefusal) → ((seed : ℕ) → Specifies spec seed (given seed)) → Ends result (follows given)) → result ≡ Err StoreFault → ⊥
+  never_faulted result ends is = subst (λ (r : Result Run Status). Ends r (follows given_by)) is (ends given_by gives_by)

@@ -7,3 +7,5 @@ pub mod Fetching
 mod ClockAnswers
 pub mod Seeds
 mod Networks
+mod Opened
+mod Reported

@@ -4,11 +4,16 @@ use Rattle.tis_base.specs.Outside.{Texts}
 use Rattle.tis_cli.specs.declared.status.Status.{Status}
 use Rattle.tis_cli.specs.declared.status.Status.TheVariants.{Done, NotPassed, Words, Refused, Missing, StoreFault, SinkFault, NoMemory, Limit}
 use Rattle.tis_cli.specs.declared.status.Refusal.{Refusal}
+use Rattle.std.proofs.Math.Path.{fun_ext}
+use Rattle.tis_grid.specs.Puzzle.{Puzzle}
+use Rattle.tis_spec.specs.Specification.{Refusal as SpecRefusal}
+use Rattle.tis_spec.proofs.Given.{each_gives_one}
+use Rattle.tis_cli.specs.Runs.{run_answer, order_answer, replay_answer, grade_answer, debug_answer}
 use Rattle.net_tree.specs.Tree.{Net}
 use Rattle.net_column.specs.Compiled.{compiled}
 use Rattle.tis_save.specs.Writing.{save_text}
 use Rattle.tis_cli.specs.Answers.{Completion, AllDone, Limited, Stopped, Failed, Answer, Refuses, Makes, Destination, Kept, Put, answer_status}
-use Rattle.tis_cli.specs.Commands.{Command, Compile, Run, Order, Replay, Grade, Network, NetComesTo, RunsTo, OrdersTo, ReplaysTo, GradesTo, command_of, fetched, destination_of, CompilesTo, ComesTo, AnswersAreOne, Debug, DebugsTo}
+use Rattle.tis_cli.specs.Commands.{Command, Compile, Run, Order, Replay, Grade, Network, NetComesTo, RunsTo, OrdersTo, ReplaysTo, GradesTo, command_of, fetched, destination_of, CompilesTo, ComesTo, Follows, AnswersAreOne, Debug, DebugsTo}
 use Rattle.tis_cli.specs.Outcomes.{IsCalled, PutsBytes, texts_under, World, IsOfAnswer, IsAnswered, IsCutShort, IsUnlessFailure, Explains}
 
 same_texts : {a b : List (List ℕ)} {found : Option (List (List ℕ))} → found ≡ Some a → found ≡ Some b → a ≡ b
@@ -36,37 +41,42 @@ compiles_once (text ∷ []) (Makes completion bytes) (Makes another others) firs
 compiles_once [] one other first second = absurd first
 compiles_once (text ∷ more ∷ texts) one other first second = absurd first
 
-clocks_once : (cycles : ℕ) (texts : List (List ℕ)) (one other : Answer) → RunsTo cycles texts one → RunsTo cycles texts other → one ≡ other
-clocks_once cycles [] one other first second = absurd first
-clocks_once cycles (save ∷ []) one other first second = absurd first
-clocks_once cycles (save ∷ spec ∷ []) one other first second = first ∙ sym second
-clocks_once cycles (save ∷ spec ∷ more ∷ texts) one other first second = absurd first
+-- what follows from what a specification gives is one answer
+follows_once : (spec : List ℕ) (seed : ℕ) (next : Result Puzzle SpecRefusal → Answer) (one other : Answer) → Follows spec seed next one → Follows spec seed next other → one ≡ other
+follows_once spec seed next one other (a, p, is) (b, q, also) = is ∙ ap next (each_gives_one spec seed a b p q) ∙ sym also
 
-orders_once : (seed limit : ℕ) (texts : List (List ℕ)) (one other : Answer) → OrdersTo seed limit texts one → OrdersTo seed limit texts other → one ≡ other
-orders_once seed limit [] one other first second = absurd first
-orders_once seed limit (save ∷ []) one other first second = absurd first
-orders_once seed limit (save ∷ spec ∷ []) one other first second = first ∙ sym second
-orders_once seed limit (save ∷ spec ∷ more ∷ texts) one other first second = absurd first
+clocks_once : (seed cycles : ℕ) (texts : List (List ℕ)) (one other : Answer) → RunsTo seed cycles texts one → RunsTo seed cycles texts other → one ≡ other
+clocks_once seed cycles [] one other first second = absurd first
+clocks_once seed cycles (save ∷ []) one other first second = absurd first
+clocks_once seed cycles (save ∷ spec ∷ []) one other first second = follows_once spec seed (λ given. run_answer save given cycles) one other first second
+clocks_once seed cycles (save ∷ spec ∷ more ∷ texts) one other first second = absurd first
 
-replays_once : (texts : List (List ℕ)) (one other : Answer) → ReplaysTo texts one → ReplaysTo texts other → one ≡ other
-replays_once [] one other first second = absurd first
-replays_once (save ∷ []) one other first second = absurd first
-replays_once (save ∷ spec ∷ []) one other first second = absurd first
-replays_once (save ∷ spec ∷ events ∷ []) one other first second = first ∙ sym second
-replays_once (save ∷ spec ∷ events ∷ more ∷ texts) one other first second = absurd first
+orders_once : (seed order_seed limit : ℕ) (texts : List (List ℕ)) (one other : Answer) → OrdersTo seed order_seed limit texts one → OrdersTo seed order_seed limit texts other → one ≡ other
+orders_once seed order_seed limit [] one other first second = absurd first
+orders_once seed order_seed limit (save ∷ []) one other first second = absurd first
+orders_once seed order_seed limit (save ∷ spec ∷ []) one other first second = follows_once spec seed (λ given. order_answer save given order_seed limit) one other first second
+orders_once seed order_seed limit (save ∷ spec ∷ more ∷ texts) one other first second = absurd first
+
+replays_once : (seed : ℕ) (texts : List (List ℕ)) (one other : Answer) → ReplaysTo seed texts one → ReplaysTo seed texts other → one ≡ other
+replays_once seed [] one other first second = absurd first
+replays_once seed (save ∷ []) one other first second = absurd first
+replays_once seed (save ∷ spec ∷ []) one other first second = absurd first
+replays_once seed (save ∷ spec ∷ events ∷ []) one other first second = follows_once spec seed (λ given. replay_answer save given events) one other first second
+replays_once seed (save ∷ spec ∷ events ∷ more ∷ texts) one other first second = absurd first
 
 grades_once : (limit : ℕ) (seeds : List ℕ) (texts : List (List ℕ)) (one other : Answer) → GradesTo limit seeds texts one → GradesTo limit seeds texts other → one ≡ other
 grades_once limit seeds [] one other first second = absurd first
 grades_once limit seeds (save ∷ []) one other first second = absurd first
-grades_once limit seeds (save ∷ spec ∷ []) one other first second = first ∙ sym second
+grades_once limit seeds (save ∷ spec ∷ []) one other (a, p, is) (b, q, also) =
+    is ∙ ap (λ (given : ℕ → Result Puzzle SpecRefusal). grade_answer save given limit seeds) (fun_ext (λ seed. each_gives_one spec seed (a seed) (b seed) (p seed) (q seed))) ∙ sym also
 grades_once limit seeds (save ∷ spec ∷ more ∷ texts) one other first second = absurd first
 
-debugs_once : (texts : List (List ℕ)) (one other : Answer) → DebugsTo texts one → DebugsTo texts other → one ≡ other
-debugs_once [] one other first second = absurd first
-debugs_once (save ∷ []) one other first second = absurd first
-debugs_once (save ∷ spec ∷ []) one other first second = absurd first
-debugs_once (save ∷ spec ∷ script ∷ []) one other first second = first ∙ sym second
-debugs_once (save ∷ spec ∷ script ∷ more ∷ texts) one other first second = absurd first
+debugs_once : (seed : ℕ) (texts : List (List ℕ)) (one other : Answer) → DebugsTo seed texts one → DebugsTo seed texts other → one ≡ other
+debugs_once seed [] one other first second = absurd first
+debugs_once seed (save ∷ []) one other first second = absurd first
+debugs_once seed (save ∷ spec ∷ []) one other first second = absurd first
+debugs_once seed (save ∷ spec ∷ script ∷ []) one other first second = follows_once spec seed (λ given. debug_answer save given script) one other first second
+debugs_once seed (save ∷ spec ∷ script ∷ more ∷ texts) one other first second = absurd first
 
 nets_once : (texts : List (List ℕ)) (one other : Answer) → NetComesTo texts one → NetComesTo texts other → one ≡ other
 nets_once [] one other first second = absurd first
@@ -77,11 +87,11 @@ nets_once (net ∷ grid ∷ more ∷ texts) one other first second = absurd firs
 pub answers_are_one : AnswersAreOne
 answers_are_one (Compile net save) texts one other first second = compiles_once texts one other first second
 answers_are_one (Network net grid) texts one other first second = nets_once texts one other first second
-answers_are_one (Run save spec seed cycles) texts one other first second = clocks_once cycles texts one other first second
-answers_are_one (Order save spec seed order_seed limit) texts one other first second = orders_once order_seed limit texts one other first second
-answers_are_one (Replay save spec seed events) texts one other first second = replays_once texts one other first second
+answers_are_one (Run save spec seed cycles) texts one other first second = clocks_once seed cycles texts one other first second
+answers_are_one (Order save spec seed order_seed limit) texts one other first second = orders_once seed order_seed limit texts one other first second
+answers_are_one (Replay save spec seed events) texts one other first second = replays_once seed texts one other first second
 answers_are_one (Grade save spec limit seeds) texts one other first second = grades_once limit seeds texts one other first second
-answers_are_one (Debug save spec seed script) texts one other first second = debugs_once texts one other first second
+answers_are_one (Debug save spec seed script) texts one other first second = debugs_once seed texts one other first second
 
 -- ---- the clauses
 

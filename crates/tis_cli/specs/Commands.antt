@@ -1,5 +1,5 @@
 -- What each command is: its words, what it fetches, where what it makes goes, what it comes to, and what is promised of that. A new command is a row in each of these definitions.
-use Rattle.std.specs.Prelude.{◌≡◌, ℕ, List, [], ◌∷◌, ◌&&◌, length, filter_map, Option, Some, None, option_map, option_and_then, Ok, codes, nat_lt, nat_le, if◌then◌else◌}
+use Rattle.std.specs.Prelude.{◌≡◌, ℕ, List, [], ◌∷◌, ◌&&◌, length, filter_map, Option, Some, None, option_map, option_and_then, Result, Ok, codes, nat_lt, nat_le, if◌then◌else◌}
 use Rattle.std.specs.Option.{option_or}
 use Rattle.std.specs.Str.{bytes_eq}
 use Rattle.tis_cli.specs.declared.command.Command as held
@@ -9,6 +9,8 @@ use Rattle.tis_cli.specs.Answers.{Answer, Refuses, Makes, AllDone, Destination, 
 use Rattle.tis_words.specs.Numerals.{number_of}
 use Rattle.tis_cli.specs.Nets.{net_answer}
 use Rattle.tis_cli.specs.Runs.{run_answer, order_answer, replay_answer, grade_answer, debug_answer}
+use Rattle.tis_grid.specs.Puzzle.{Puzzle}
+use Rattle.tis_spec.specs.Specification.{Refusal as SpecRefusal, Specifies}
 use Rattle.net_tree.specs.Tree.{Net}
 use Rattle.net_rules.specs.Numbers.{numbered}
 use Rattle.net_column.specs.Form.{HasForm}
@@ -136,42 +138,50 @@ NetComesTo (net ∷ grid ∷ other ∷ texts) answer = ⊥
 
 -- ---- run, order, replay, debug and grade
 
--- two texts are fetched
-abbrev pub RunsTo : ℕ → List (List ℕ) → Answer → Type 0
-RunsTo cycles (save ∷ spec ∷ []) answer = answer ≡ run_answer save spec cycles
-RunsTo cycles [] answer = ⊥
-RunsTo cycles (text ∷ []) answer = ⊥
-RunsTo cycles (save ∷ spec ∷ other ∷ texts) answer = ⊥
+-- this follows from what a specification gives with a seed
+abbrev pub Follows : List ℕ → ℕ → (Result Puzzle SpecRefusal → Answer) → Answer → Type 0
+Follows spec seed next answer = (given : Result Puzzle SpecRefusal) × Specifies spec seed given × (answer ≡ next given)
+
+-- this follows from what a specification gives with each seed
+abbrev pub FollowsFromAll : List ℕ → ((ℕ → Result Puzzle SpecRefusal) → Answer) → Answer → Type 0
+FollowsFromAll spec next answer = (given : ℕ → Result Puzzle SpecRefusal) × ((seed : ℕ) → Specifies spec seed (given seed)) × (answer ≡ next given)
 
 -- two texts are fetched
-abbrev pub OrdersTo : ℕ → ℕ → List (List ℕ) → Answer → Type 0
-OrdersTo seed limit (save ∷ spec ∷ []) answer = answer ≡ order_answer save spec seed limit
-OrdersTo seed limit [] answer = ⊥
-OrdersTo seed limit (text ∷ []) answer = ⊥
-OrdersTo seed limit (save ∷ spec ∷ other ∷ texts) answer = ⊥
+abbrev pub RunsTo : ℕ → ℕ → List (List ℕ) → Answer → Type 0
+RunsTo seed cycles (save ∷ spec ∷ []) answer = Follows spec seed (λ given. run_answer save given cycles) answer
+RunsTo seed cycles [] answer = ⊥
+RunsTo seed cycles (text ∷ []) answer = ⊥
+RunsTo seed cycles (save ∷ spec ∷ other ∷ texts) answer = ⊥
+
+-- two texts are fetched
+abbrev pub OrdersTo : ℕ → ℕ → ℕ → List (List ℕ) → Answer → Type 0
+OrdersTo seed order_seed limit (save ∷ spec ∷ []) answer = Follows spec seed (λ given. order_answer save given order_seed limit) answer
+OrdersTo seed order_seed limit [] answer = ⊥
+OrdersTo seed order_seed limit (text ∷ []) answer = ⊥
+OrdersTo seed order_seed limit (save ∷ spec ∷ other ∷ texts) answer = ⊥
 
 -- three texts are fetched
-abbrev pub ReplaysTo : List (List ℕ) → Answer → Type 0
-ReplaysTo (save ∷ spec ∷ events ∷ []) answer = answer ≡ replay_answer save spec events
-ReplaysTo [] answer = ⊥
-ReplaysTo (text ∷ []) answer = ⊥
-ReplaysTo (save ∷ spec ∷ []) answer = ⊥
-ReplaysTo (save ∷ spec ∷ events ∷ other ∷ texts) answer = ⊥
+abbrev pub ReplaysTo : ℕ → List (List ℕ) → Answer → Type 0
+ReplaysTo seed (save ∷ spec ∷ events ∷ []) answer = Follows spec seed (λ given. replay_answer save given events) answer
+ReplaysTo seed [] answer = ⊥
+ReplaysTo seed (text ∷ []) answer = ⊥
+ReplaysTo seed (save ∷ spec ∷ []) answer = ⊥
+ReplaysTo seed (save ∷ spec ∷ events ∷ other ∷ texts) answer = ⊥
 
 -- two texts are fetched
 abbrev pub GradesTo : ℕ → List ℕ → List (List ℕ) → Answer → Type 0
-GradesTo limit seeds (save ∷ spec ∷ []) answer = answer ≡ grade_answer save spec limit seeds
+GradesTo limit seeds (save ∷ spec ∷ []) answer = FollowsFromAll spec (λ given. grade_answer save given limit seeds) answer
 GradesTo limit seeds [] answer = ⊥
 GradesTo limit seeds (text ∷ []) answer = ⊥
 GradesTo limit seeds (save ∷ spec ∷ other ∷ texts) answer = ⊥
 
 -- three texts are fetched
-abbrev pub DebugsTo : List (List ℕ) → Answer → Type 0
-DebugsTo (save ∷ spec ∷ script ∷ []) answer = answer ≡ debug_answer save spec script
-DebugsTo [] answer = ⊥
-DebugsTo (text ∷ []) answer = ⊥
-DebugsTo (save ∷ spec ∷ []) answer = ⊥
-DebugsTo (save ∷ spec ∷ script ∷ other ∷ texts) answer = ⊥
+abbrev pub DebugsTo : ℕ → List (List ℕ) → Answer → Type 0
+DebugsTo seed (save ∷ spec ∷ script ∷ []) answer = Follows spec seed (λ given. debug_answer save given script) answer
+DebugsTo seed [] answer = ⊥
+DebugsTo seed (text ∷ []) answer = ⊥
+DebugsTo seed (save ∷ spec ∷ []) answer = ⊥
+DebugsTo seed (save ∷ spec ∷ script ∷ other ∷ texts) answer = ⊥
 
 -- ---- every command
 
@@ -199,11 +209,11 @@ destination_of (Debug save spec seed script) = Put
 abbrev pub ComesTo : Command → List (List ℕ) → Answer → Type 0
 ComesTo (Compile net save) texts answer = CompilesTo texts answer
 ComesTo (Network net grid) texts answer = NetComesTo texts answer
-ComesTo (Run save spec seed cycles) texts answer = RunsTo cycles texts answer
-ComesTo (Order save spec seed order_seed limit) texts answer = OrdersTo order_seed limit texts answer
-ComesTo (Replay save spec seed events) texts answer = ReplaysTo texts answer
+ComesTo (Run save spec seed cycles) texts answer = RunsTo seed cycles texts answer
+ComesTo (Order save spec seed order_seed limit) texts answer = OrdersTo seed order_seed limit texts answer
+ComesTo (Replay save spec seed events) texts answer = ReplaysTo seed texts answer
 ComesTo (Grade save spec limit seeds) texts answer = GradesTo limit seeds texts answer
-ComesTo (Debug save spec seed script) texts answer = DebugsTo texts answer
+ComesTo (Debug save spec seed script) texts answer = DebugsTo seed texts answer
 
 -- what is promised of the bytes that it made, where all is done; of a report nothing more than what it comes to
 abbrev pub IsPromised : Command → List (List ℕ) → List ℕ → Type 0
@@ -220,3 +230,7 @@ IsPromised (Debug save spec seed script) texts bytes = Unit {0}
 -- texts come to one answer
 abbrev pub AnswersAreOne : Type 0
 AnswersAreOne = (command : Command) (texts : List (List ℕ)) (one other : Answer) → ComesTo command texts one → ComesTo command texts other → one ≡ other
+
+-- each command that puts a report comes to an answer, whatever the texts are that it fetched
+abbrev pub ReportsAnswer : Type 0
+ReportsAnswer = (command : Command) (texts : List (List ℕ)) → destination_of command ≡ Put → length texts ≡ length (fetched command) → (answer : Answer) × ComesTo command texts answer

@@ -1,5 +1,7 @@
 -- What a run over texts answers, beside what the texts come to.
 use Rattle.std.specs.Prelude.{◌≡◌, List, Option, Some, None, Result, Ok, Err}
+use Rattle.tis_grid.specs.Puzzle.{Puzzle, puzzle_of}
+use Rattle.tis_grid.specs.declared.puzzle.Puzzle as held
 use Rattle.tis_grid.specs.State.{Grid}
 use Rattle.tis_grid.specs.declared.running.Ended.{Ended}
 use Rattle.tis_grid.specs.declared.running.Ended.TheVariants as ended
@@ -36,6 +38,11 @@ Ends (Err status) answer = Stops status answer
 abbrev pub Opens : Result Grid Status → Answer → (Grid → Answer) → Type 0
 Opens (Ok grid) answer next = answer ≡ next grid
 Opens (Err status) answer next = Stops status answer
+
+-- the puzzle of a specification, over which the rest is looked at, or why there is none
+abbrev pub OpensPuzzle : Result held.Puzzle Status → Answer → (Puzzle → Answer) → Type 0
+OpensPuzzle (Ok puzzle) answer next = answer ≡ next (puzzle_of puzzle)
+OpensPuzzle (Err status) answer next = Stops status answer
 
 -- the status of a solution that is passed for each seed, or fails at one
 abbrev pub grade_status : Option Failed → Status

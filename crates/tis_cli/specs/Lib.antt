@@ -5,3 +5,4 @@ pub mod Ends
 pub mod Commands
 pub mod Outcomes
 pub mod Statuses
+pub mod Refusals

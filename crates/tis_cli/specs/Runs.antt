@@ -1,11 +1,6 @@
 -- What `run`, `order`, `replay`, `debug` and `grade` come to over the texts that they fetch: the first refusal, or the report of what the grid did.
 use Rattle.std.specs.Prelude.{ℕ, zero, suc, ◌+◌, List, [], ◌∷◌, ◌++◌, length, Option, Some, None, unwrap_or, Result, Ok, Err}
-use Rattle.tis_asm.specs.declared.error.AsmError.{AsmError}
-use Rattle.tis_asm.specs.declared.error.AsmError.TheVariants as code
-use Rattle.tis_asm.specs.Assembling as asm
 use Rattle.tis_asm.specs.Programs.{Programs}
-use Rattle.tis_save.specs.declared.error.SaveError.{SaveError}
-use Rattle.tis_save.specs.declared.error.SaveError.TheVariants as held_save
 use Rattle.tis_save.specs.Reading as save
 use Rattle.tis_grid.specs.declared.event.Event.{Event}
 use Rattle.tis_grid.specs.declared.running.Ended.TheVariants.{Rest, Limit}
@@ -16,8 +11,6 @@ use Rattle.tis_grid.specs.Orders.{after}
 use Rattle.tis_grid.specs.Choices.{enabled_events}
 use Rattle.tis_grid.specs.Drawn.{drawn}
 use Rattle.tis_clock.specs.Cycle.{cycle_events, after_cycle}
-use Rattle.tis_grid_text.specs.declared.error.GridTextError.{GridTextError}
-use Rattle.tis_grid_text.specs.declared.error.GridTextError.TheVariants as held_grid
 use Rattle.tis_grid_text.specs.GridText as text
 use Rattle.tis_grid_text.specs.EventsText.{events_of}
 use Rattle.tis_grade.specs.declared.cases.Case.{Case}
@@ -27,27 +20,9 @@ use Rattle.tis_report.specs.Reports.{ended_text, replayed_text, not_enabled_text
 use Rattle.tis_debug.specs.declared.script.Action.{Action}
 use Rattle.tis_debug.specs.Scripts.{script_of, debug_text}
 use Rattle.tis_cli.specs.declared.status.Refusal.TheVariants.{Save, Grid as Grid_text, Events, Script}
+use Rattle.tis_spec.specs.Specification.{Refusal as SpecRefusal}
+use Rattle.tis_cli.specs.Refusals.{save_error, grid_error, spec_refusal}
 use Rattle.tis_cli.specs.Answers.{Completion, Answer, Refuses, Makes, AllDone, Limited, Stopped, Failed as Fails}
-
--- ---- refusals, as they are held
-
-abbrev pub asm_error : asm.AsmRefusal → AsmError
-asm_error asm.TooManyLines = code.TooManyLines
-asm_error (asm.LongLine line) = code.LongLine line
-asm_error (asm.BadLine line) = code.BadLine line
-asm_error (asm.RepeatedLabel line) = code.RepeatedLabel line
-asm_error (asm.UnknownLabel line) = code.UnknownLabel line
-
-abbrev pub save_error : save.SaveRefusal → SaveError
-save_error (save.BadHead line) = held_save.BadHead line
-save_error (save.UnknownBlock line) = held_save.UnknownBlock line
-save_error (save.RepeatedBlock line) = held_save.RepeatedBlock line
-save_error (save.StrayCode line) = held_save.StrayCode line
-save_error (save.Asm block refusal) = held_save.Asm block (asm_error refusal)
-
-abbrev pub grid_error : text.Refusal → GridTextError
-grid_error (text.BadLine line) = held_grid.BadLine line
-grid_error (text.SamePlace line) = held_grid.SamePlace line
 
 -- ---- texts
 
@@ -65,6 +40,11 @@ abbrev pub over_puzzle : Result Puzzle text.Refusal → (Puzzle → Answer) → 
 over_puzzle (Err refusal) next = Refuses (Grid_text (grid_error refusal))
 over_puzzle (Ok puzzle) next = next puzzle
 
+-- what follows over the puzzle that a specification gives, or its refusal
+abbrev pub over_given : Result Puzzle SpecRefusal → (Puzzle → Answer) → Answer
+over_given (Err refusal) next = Refuses (spec_refusal refusal)
+over_given (Ok puzzle) next = next puzzle
+
 -- what follows over the events of a text, or its first line that names none
 abbrev pub over_events : Result (List Event) ℕ → (List Event → Answer) → Answer
 over_events (Err line) next = Refuses (Events line)
@@ -75,9 +55,9 @@ abbrev pub over_script : Result (List Action) ℕ → (List Action → Answer) �
 over_script (Err line) next = Refuses (Script line)
 over_script (Ok actions) next = next actions
 
--- what follows over the grid of a save and a specification; the save is read over the tiles of the specification, which is looked at first
-abbrev pub over_grid : List ℕ → List ℕ → (Grid → Answer) → Answer
-over_grid saved spec next = over_puzzle (text.grid_of spec) (λ puzzle. over_programs (save.save_of saved puzzle.tiles) (λ programs. next (grid_of puzzle programs)))
+-- what follows over the grid of a save and of what a specification gives; the save is read over the tiles of the specification, which is looked at first
+abbrev pub over_grid : List ℕ → Result Puzzle SpecRefusal → (Grid → Answer) → Answer
+over_grid saved given next = over_given given (λ puzzle. over_programs (save.save_of saved puzzle.tiles) (λ programs. next (grid_of puzzle programs)))
 
 -- ---- the clock
 
@@ -129,10 +109,10 @@ replayed order grid = over_events order (λ events. replayed_from grid 0 events 
 
 -- ---- grades
 
--- what follows over these cases and those of a save and a specification for further seeds, each of which is made before the next
-abbrev pub over_cases : List ℕ → List ℕ → List Case → List ℕ → (List Case → Answer) → Answer
-over_cases saved spec cases [] next = next cases
-over_cases saved spec cases (seed ∷ seeds) next = over_grid saved spec (λ grid. over_cases saved spec (cases ++ record { seed = seed; grid = grid } ∷ []) seeds next)
+-- what follows over these cases and those of a save and of what a specification gives with further seeds, each of which is made before the next
+abbrev pub over_cases : List ℕ → (ℕ → Result Puzzle SpecRefusal) → List Case → List ℕ → (List Case → Answer) → Answer
+over_cases saved given cases [] next = next cases
+over_cases saved given cases (seed ∷ seeds) next = over_grid saved (given seed) (λ grid. over_cases saved given (cases ++ record { seed = seed; grid = grid } ∷ []) seeds next)
 
 -- how a grade ends: all is done where each seed is passed, and else at the first that isn't
 abbrev pub grade_completion : Option Failed → Completion
@@ -149,20 +129,20 @@ grades limit cases = Makes (grade_completion (graded limit cases).failed) (grade
 abbrev pub debugged : Result (List Action) ℕ → Grid → Answer
 debugged script grid = over_script script (λ actions. Makes AllDone (debug_text grid actions))
 
--- ---- the commands
+-- ---- the commands, over what their specification gives
 
-unfoldable pub run_answer : List ℕ → List ℕ → ℕ → Answer
-run_answer saved spec cycles = over_grid saved spec (clocked cycles)
+unfoldable pub run_answer : List ℕ → Result Puzzle SpecRefusal → ℕ → Answer
+run_answer saved given cycles = over_grid saved given (clocked cycles)
 
-unfoldable pub order_answer : List ℕ → List ℕ → ℕ → ℕ → Answer
-order_answer saved spec seed limit = over_grid saved spec (ordered seed limit)
+unfoldable pub order_answer : List ℕ → Result Puzzle SpecRefusal → ℕ → ℕ → Answer
+order_answer saved given order_seed limit = over_grid saved given (ordered order_seed limit)
 
-unfoldable pub replay_answer : List ℕ → List ℕ → List ℕ → Answer
-replay_answer saved spec events = over_grid saved spec (replayed (events_of events))
+unfoldable pub replay_answer : List ℕ → Result Puzzle SpecRefusal → List ℕ → Answer
+replay_answer saved given events = over_grid saved given (replayed (events_of events))
 
--- the save and the specification are read for each seed before the first is graded
-unfoldable pub grade_answer : List ℕ → List ℕ → ℕ → List ℕ → Answer
-grade_answer saved spec limit seeds = over_cases saved spec [] seeds (grades limit)
+-- the puzzle is made and the save read for each seed before the first is graded
+unfoldable pub grade_answer : List ℕ → (ℕ → Result Puzzle SpecRefusal) → ℕ → List ℕ → Answer
+grade_answer saved given limit seeds = over_cases saved given [] seeds (grades limit)
 
-unfoldable pub debug_answer : List ℕ → List ℕ → List ℕ → Answer
-debug_answer saved spec script = over_grid saved spec (debugged (script_of script))
+unfoldable pub debug_answer : List ℕ → Result Puzzle SpecRefusal → List ℕ → Answer
+debug_answer saved given script = over_grid saved given (debugged (script_of script))

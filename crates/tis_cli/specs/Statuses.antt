@@ -12,6 +12,16 @@ use Rattle.tis_grid_text.specs.declared.error.EventsError.{EventsError}
 use Rattle.tis_grid_text.specs.declared.error.EventsError.TheVariants as events
 use Rattle.tis_debug.specs.declared.error.ScriptError.{ScriptError}
 use Rattle.tis_debug.specs.declared.error.ScriptError.TheVariants as script
+use Rattle.lua_syntax.specs.declared.error.LuaSyntax.{LuaSyntax}
+use Rattle.lua_syntax.specs.declared.error.LuaSyntax.TheVariants as chunk
+use Rattle.lua_machine.specs.declared.error.LuaError.{LuaError}
+use Rattle.lua_machine.specs.declared.error.LuaError.TheVariants as lua
+use Rattle.tis_puzzle.specs.declared.error.Wanted.{Wanted}
+use Rattle.tis_puzzle.specs.declared.error.Wanted.TheVariants as wanted
+use Rattle.tis_puzzle.specs.declared.error.PuzzleError.{PuzzleError}
+use Rattle.tis_puzzle.specs.declared.error.PuzzleError.TheVariants as puzzle
+use Rattle.tis_spec.specs.declared.error.SpecError.{SpecError}
+use Rattle.tis_spec.specs.declared.error.SpecError.TheVariants as spec
 use Rattle.tis_base.specs.declared.store.StoreError.{StoreError}
 use Rattle.tis_base.specs.declared.store.StoreError.TheVariants as fault
 use Rattle.net_column.specs.declared.error.FormError.{FormError}
@@ -23,7 +33,7 @@ use Rattle.net_rules.specs.declared.error.RuleError.TheVariants as rule
 use Rattle.tis_cli.specs.declared.status.Status.{Status}
 use Rattle.tis_cli.specs.declared.status.Status.TheVariants.{Done, NotPassed, Words, Refused, Missing, StoreFault, SinkFault, NoMemory, Limit}
 use Rattle.tis_cli.specs.declared.status.Refusal.{Refusal}
-use Rattle.tis_cli.specs.declared.status.Refusal.TheVariants.{NotThisForm, Net, Rule, Save, Grid, Events, NotEnabled, Script}
+use Rattle.tis_cli.specs.declared.status.Refusal.TheVariants.{NotThisForm, Net, Rule, Save, Grid, Syntax, Puzzle, Events, NotEnabled, Script}
 
 -- the number that the program ends with
 abbrev pub number_of : Status → ℕ
@@ -62,6 +72,35 @@ grid_words (grid.BadLine line) = with_number (codes "BadLine ") line
 grid_words (grid.SamePlace line) = with_number (codes "SamePlace ") line
 grid_words grid.NoMemory = codes "NoMemory"
 
+abbrev pub chunk_words : LuaSyntax → List ℕ
+chunk_words (chunk.Syntax line) = with_number (codes "Syntax ") line
+chunk_words (chunk.TooDeep line) = with_number (codes "TooDeep ") line
+chunk_words chunk.NoMemory = codes "NoMemory"
+
+abbrev pub lua_words : LuaError → List ℕ
+lua_words (lua.TypeFault line) = with_number (codes "TypeFault ") line
+lua_words (lua.UnknownName line) = with_number (codes "UnknownName ") line
+lua_words (lua.Inexact line) = with_number (codes "Inexact ") line
+lua_words (lua.OutOfRange line) = with_number (codes "OutOfRange ") line
+lua_words (lua.LongString line) = with_number (codes "LongString ") line
+lua_words (lua.TooDeepCalls line) = with_number (codes "TooDeepCalls ") line
+lua_words lua.Budget = codes "Budget"
+lua_words lua.NoMemory = codes "NoMemory"
+
+abbrev pub wanted_words : Wanted → List ℕ
+wanted_words wanted.Name = codes "Name"
+wanted_words wanted.Description = codes "Description"
+wanted_words wanted.Streams = codes "Streams"
+wanted_words wanted.Layout = codes "Layout"
+
+abbrev pub puzzle_words : PuzzleError → List ℕ
+puzzle_words (puzzle.NoFunction which) = codes "NoFunction " ++ wanted_words which
+puzzle_words (puzzle.Lua which error) = codes "Lua " ++ (wanted_words which ++ 32 ∷ lua_words error)
+puzzle_words (puzzle.BadStreams index) = with_number (codes "BadStreams ") index
+puzzle_words (puzzle.SamePlace index) = with_number (codes "SamePlace ") index
+puzzle_words (puzzle.BadLayout index) = with_number (codes "BadLayout ") index
+puzzle_words puzzle.NoMemory = codes "NoMemory"
+
 abbrev pub net_words : NetError → List ℕ
 net_words (net.BadLine line) = with_number (codes "BadLine ") line
 net_words (net.TooDeep line) = with_number (codes "TooDeep ") line
@@ -91,6 +130,8 @@ refusal_words (Net error) = codes "Net " ++ net_words error
 refusal_words (Rule error) = codes "Rule " ++ rule_words error
 refusal_words (Save error) = codes "Save " ++ save_words error
 refusal_words (Grid error) = codes "Grid " ++ grid_words error
+refusal_words (Syntax error) = codes "Syntax " ++ chunk_words error
+refusal_words (Puzzle error) = codes "Puzzle " ++ puzzle_words error
 refusal_words (Events line) = with_number (codes "Events ") line
 refusal_words (NotEnabled index) = with_number (codes "NotEnabled ") index
 refusal_words (Script line) = with_number (codes "Script ") line
@@ -155,6 +196,25 @@ abbrev pub grid_status : GridTextError → Status
 grid_status (grid.BadLine line) = Refused (Grid (grid.BadLine line))
 grid_status (grid.SamePlace line) = Refused (Grid (grid.SamePlace line))
 grid_status grid.NoMemory = NoMemory
+
+-- and one of a specification in Lua
+abbrev pub chunk_status : LuaSyntax → Status
+chunk_status (chunk.Syntax line) = Refused (Syntax (chunk.Syntax line))
+chunk_status (chunk.TooDeep line) = Refused (Syntax (chunk.TooDeep line))
+chunk_status chunk.NoMemory = NoMemory
+
+abbrev pub puzzle_status : PuzzleError → Status
+puzzle_status (puzzle.NoFunction which) = Refused (Puzzle (puzzle.NoFunction which))
+puzzle_status (puzzle.Lua which error) = Refused (Puzzle (puzzle.Lua which error))
+puzzle_status (puzzle.BadStreams index) = Refused (Puzzle (puzzle.BadStreams index))
+puzzle_status (puzzle.SamePlace index) = Refused (Puzzle (puzzle.SamePlace index))
+puzzle_status (puzzle.BadLayout index) = Refused (Puzzle (puzzle.BadLayout index))
+puzzle_status puzzle.NoMemory = NoMemory
+
+abbrev pub spec_status : SpecError → Status
+spec_status (spec.Grid error) = grid_status error
+spec_status (spec.Syntax error) = chunk_status error
+spec_status (spec.Puzzle error) = puzzle_status error
 
 abbrev pub events_status : EventsError → Status
 events_status (events.Bad line) = Refused (Events line)

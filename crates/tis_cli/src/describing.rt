@@ -2,15 +2,19 @@
 ghost use Rattle.std.specs.Prelude.{◌≡◌, ◌++◌, OnOk};
 ghost use Rattle.tis_base.specs.Answers.{Gives};
 ghost use Rattle.tis_save.specs.declared.error.SaveError.TheVariants.{Asm};
-ghost use Rattle.tis_cli.specs.Statuses.{with_number, asm_words, net_words, rule_words, save_words, grid_words, refusal_words, status_line};
+ghost use Rattle.tis_puzzle.specs.declared.error.PuzzleError.TheVariants.{Lua, NoFunction};
+ghost use Rattle.tis_cli.specs.Statuses.{with_number, asm_words, net_words, rule_words, save_words, grid_words, chunk_words, lua_words, wanted_words, puzzle_words, refusal_words, status_line};
 
 use crate::status::{Refusal, Status};
+use lua_machine::LuaError;
+use lua_syntax::LuaSyntax;
 use net_rules::RuleError;
 use net_syntax::NetError;
 use std::alloc::Global;
 use tis_asm::AsmError;
 use tis_base::NoMemory;
 use tis_grid_text::GridTextError;
+use tis_puzzle::{PuzzleError, Wanted};
 use tis_report::push_count;
 use tis_save::SaveError;
 
@@ -140,7 +144,78 @@ fn push_grid(line: &mut Vec<u8>, error: GridTextError) -> Result<(), NoMemory>
     }
 }
 
-// Writes the text of a refusal that begins with this name.
+// Writes why a text is no chunk of Lua.
+fn push_chunk(line: &mut Vec<u8>, error: LuaSyntax) -> Result<(), NoMemory>
+    ensures { OnOk result (line.new.items ≡ line.old.items ++ chunk_words error) }
+{
+    match error {
+        LuaSyntax::Syntax { line: at } => push_with_number(line, b"Syntax ", at as u64),
+        LuaSyntax::TooDeep { line: at } => push_with_number(line, b"TooDeep ", at as u64),
+        LuaSyntax::NoMemory => push_name(line, b"NoMemory"),
+    }
+}
+
+// Writes why a call of a function gives nothing.
+fn push_lua(line: &mut Vec<u8>, error: LuaError) -> Result<(), NoMemory>
+    ensures { OnOk result (line.new.items ≡ line.old.items ++ lua_words error) }
+{
+    match error {
+        LuaError::TypeFault { line: at } => push_with_number(line, b"TypeFault ", at as u64),
+        LuaError::UnknownName { line: at } => push_with_number(line, b"UnknownName ", at as u64),
+        LuaError::Inexact { line: at } => push_with_number(line, b"Inexact ", at as u64),
+        LuaError::OutOfRange { line: at } => push_with_number(line, b"OutOfRange ", at as u64),
+        LuaError::LongString { line: at } => push_with_number(line, b"LongString ", at as u64),
+        LuaError::TooDeepCalls { line: at } => push_with_number(line, b"TooDeepCalls ", at as u64),
+        LuaError::Budget => push_name(line, b"Budget"),
+        LuaError::NoMemory => push_name(line, b"NoMemory"),
+    }
+}
+
+// Writes which function of a specification is meant.
+fn push_wanted(line: &mut Vec<u8>, wanted: Wanted) -> Result<(), NoMemory>
+    ensures { OnOk result (line.new.items ≡ line.old.items ++ wanted_words wanted) }
+{
+    match wanted {
+        Wanted::Name => push_name(line, b"Name"),
+        Wanted::Description => push_name(line, b"Description"),
+        Wanted::Streams => push_name(line, b"Streams"),
+        Wanted::Layout => push_name(line, b"Layout"),
+    }
+}
+
+// Writes which function is missing.
+fn push_missing(line: &mut Vec<u8>, name: Wanted) -> Result<(), NoMemory>
+    ensures { OnOk result (line.new.items ≡ line.old.items ++ puzzle_words (NoFunction name)) }
+{
+    push_name(line, b"NoFunction ")?;
+    push_wanted(line, name)
+}
+
+// Writes which call of a function gives nothing, and why.
+fn push_call(line: &mut Vec<u8>, name: Wanted, error: LuaError) -> Result<(), NoMemory>
+    ensures { OnOk result (line.new.items ≡ line.old.items ++ puzzle_words (Lua name error)) }
+{
+    push_name(line, b"Lua ")?;
+    push_wanted(line, name)?;
+    push_name(line, b" ")?;
+    push_lua(line, error)
+}
+
+// Writes why a chunk gives no puzzle.
+fn push_puzzle(line: &mut Vec<u8>, error: PuzzleError) -> Result<(), NoMemory>
+    ensures { OnOk result (line.new.items ≡ line.old.items ++ puzzle_words error) }
+{
+    match error {
+        PuzzleError::NoFunction { name } => push_missing(line, name),
+        PuzzleError::Lua { name, error } => push_call(line, name, error),
+        PuzzleError::BadStreams { index } => push_with_number(line, b"BadStreams ", index as u64),
+        PuzzleError::SamePlace { index } => push_with_number(line, b"SamePlace ", index as u64),
+        PuzzleError::BadLayout { index } => push_with_number(line, b"BadLayout ", index as u64),
+        PuzzleError::NoMemory => push_name(line, b"NoMemory"),
+    }
+}
+
+// Writes the words of a refusal.
 fn push_refusal(line: &mut Vec<u8>, refusal: Refusal) -> Result<(), NoMemory>
     ensures { OnOk result (line.new.items ≡ line.old.items ++ refusal_words refusal) }
 {
@@ -161,6 +236,14 @@ fn push_refusal(line: &mut Vec<u8>, refusal: Refusal) -> Result<(), NoMemory>
         Refusal::Grid(error) => {
             push_name(line, b"Grid ")?;
             push_grid(line, error)
+        }
+        Refusal::Syntax(error) => {
+            push_name(line, b"Syntax ")?;
+            push_chunk(line, error)
+        }
+        Refusal::Puzzle(error) => {
+            push_name(line, b"Puzzle ")?;
+            push_puzzle(line, error)
         }
         Refusal::Events { line: at } => push_with_number(line, b"Events ", at as u64),
         Refusal::NotEnabled { index } => push_with_number(line, b"NotEnabled ", index as u64),

@@ -1,6 +1,8 @@
 //! A save over a specification, graded for several seeds.
-ghost use Rattle.std.specs.Prelude.{◌≡◌, [], ◌∷◌, ◌++◌, List, Option, ℕ, OnOk};
+ghost use Rattle.std.specs.Prelude.{◌≡◌, [], ◌∷◌, ◌++◌, List, Option, Result, ℕ, OnOk};
+ghost use Rattle.tis_grid.specs.Puzzle.{Puzzle as SomePuzzle};
 ghost use Rattle.tis_grade.specs.declared.cases.Case.{Case as SomeCase};
+ghost use Rattle.tis_spec.specs.Specification.{Refusal as SpecRefusal, Specifies};
 ghost use Rattle.tis_cli.specs.Answers.{Answer};
 ghost use Rattle.tis_cli.specs.Commands.{kept_seeds};
 ghost use Rattle.tis_cli.specs.Runs.{over_cases, grades, grade_answer};
@@ -21,7 +23,7 @@ fn push_case(cases: &mut Vec<Case>, case: Case) -> Result<(), NoMemory>
     Ok(())
 }
 
-// Reads the save and the specification for a seed, where there is one.
+// Makes the puzzle and reads the save for a seed, where there is one.
 fn open_case(
     alloc: Global,
     save: &[u8],
@@ -29,12 +31,12 @@ fn open_case(
     seed: Option<u64>,
     cases: &mut Vec<Case>,
 ) -> Result<(), Status>
-    ensures { (seeds : List (Option ℕ)) (next : List SomeCase → Answer) → Continues result (over_cases save.now spec.now cases.old.items (kept_seeds (seed ∷ seeds)) next) (over_cases save.now spec.now cases.new.items (kept_seeds seeds) next) }
+    ensures { (given : ℕ → Result SomePuzzle SpecRefusal) (seeds : List (Option ℕ)) (next : List SomeCase → Answer) → ((each : ℕ) → Specifies spec.now each (given each)) → Continues result (over_cases save.now given cases.old.items (kept_seeds (seed ∷ seeds)) next) (over_cases save.now given cases.new.items (kept_seeds seeds) next) }
 {
     let Some(seed) = seed else {
         return Ok(());
     };
-    let grid = open_grid(alloc, save, spec)?;
+    let grid = open_grid(alloc, save, spec, seed)?;
     push_case(cases, Case { seed, grid })?;
     Ok(())
 }
@@ -46,7 +48,7 @@ fn open_cases(
     spec: &[u8],
     seeds: &[Option<u64>; SEEDS],
 ) -> Result<Vec<Case>, Status>
-    ensures { (next : List SomeCase → Answer) → OpensCases (λ cases. cases.items) result (over_cases save.now spec.now [] (kept_seeds seeds.now) next) next }
+    ensures { (given : ℕ → Result SomePuzzle SpecRefusal) (next : List SomeCase → Answer) → ((each : ℕ) → Specifies spec.now each (given each)) → OpensCases (λ cases. cases.items) result (over_cases save.now given [] (kept_seeds seeds.now) next) next }
 {
     let mut cases = Vec::new(alloc);
     for seed in seeds {
@@ -84,7 +86,7 @@ pub(crate) fn grade(
     limit: u64,
     seeds: &[Option<u64>; SEEDS],
 ) -> Result<Run, Status>
-    ensures { Ends result (grade_answer save.now spec.now limit (kept_seeds seeds.now)) }
+    ensures { (given : ℕ → Result SomePuzzle SpecRefusal) → ((each : ℕ) → Specifies spec.now each (given each)) → Ends result (grade_answer save.now given limit (kept_seeds seeds.now)) }
 {
     let cases = open_cases(alloc, save, spec, seeds)?;
     grade_cases(alloc, &cases, limit)

@@ -28,8 +28,9 @@
 //! # What it costs
 //!
 //! A `compile` goes over its text from left to right once, and holds the text, the network, its programs and
-//! the save in memory. A `net` holds its texts, a list for each channel and output, and the report. A `run`, an `order`, a `replay` or a `grade` holds its texts, the grid with two bytes for each value of an
-//! output, and the report.
+//! the save in memory. A `net` holds its texts, a list for each channel and output, and the report. A `run`, an `order`, a `replay` or a `debug` holds its texts, the grid with two bytes for each value of an
+//! output, and the report; a `grade` so many grids as it has seeds. Where the specification is Lua, each seed takes a tree of the text and two calls, of at most
+//! 500,000 units each, whose memory is given back before the grid is made.
 //!
 //! # What it doesn't do
 //!
@@ -46,6 +47,6 @@ mod runs;
 mod status;
 
 pub use describing::describe;
-pub use laws::answers_are_one;
+pub use laws::{answers_are_one, reports_answer};
 pub use run::tool;
 pub use status::{Refusal, Status};

@@ -60,10 +60,11 @@ fn work_of_run<S: Store>(
     alloc: Global,
     save: &str,
     spec: &str,
+    seed: u64,
     cycles: u64,
     store: &mut S,
 ) -> Result<Run, Status>
-    ensures runs { (seed : ℕ) → Runs (ByClock save.now spec.now seed cycles) (S.texts store.old) result }
+    ensures runs { Runs (ByClock save.now spec.now seed cycles) (S.texts store.old) result }
     ensures texts_stay { S.texts store.new ≡ S.texts store.old }
     ensures missing_counted { IsErrOf result Status.Missing → Rose (S.misses store.old) (S.misses store.new) }
     ensures fault_counted { IsErrOf result Status.StoreFault → Rose (S.faults store.old) (S.faults store.new) }
@@ -72,7 +73,7 @@ fn work_of_run<S: Store>(
 {
     let saved = store.fetch(alloc, save)?;
     let spec = store.fetch(alloc, spec)?;
-    clock(alloc, &saved, &spec, cycles)
+    clock(alloc, &saved, &spec, seed, cycles)
 }
 
 // What a drawn order over the texts under these names comes to.
@@ -80,11 +81,12 @@ fn work_of_order<S: Store>(
     alloc: Global,
     save: &str,
     spec: &str,
+    seed: u64,
     order_seed: u64,
     limit: u64,
     store: &mut S,
 ) -> Result<Run, Status>
-    ensures runs { (seed : ℕ) → Runs (Order save.now spec.now seed order_seed limit) (S.texts store.old) result }
+    ensures runs { Runs (Order save.now spec.now seed order_seed limit) (S.texts store.old) result }
     ensures texts_stay { S.texts store.new ≡ S.texts store.old }
     ensures missing_counted { IsErrOf result Status.Missing → Rose (S.misses store.old) (S.misses store.new) }
     ensures fault_counted { IsErrOf result Status.StoreFault → Rose (S.faults store.old) (S.faults store.new) }
@@ -93,7 +95,7 @@ fn work_of_order<S: Store>(
 {
     let saved = store.fetch(alloc, save)?;
     let spec = store.fetch(alloc, spec)?;
-    order(alloc, &saved, &spec, order_seed, limit)
+    order(alloc, &saved, &spec, seed, order_seed, limit)
 }
 
 // What the order under one name comes to over the texts under the others.
@@ -101,10 +103,11 @@ fn work_of_replay<S: Store>(
     alloc: Global,
     save: &str,
     spec: &str,
+    seed: u64,
     events: &str,
     store: &mut S,
 ) -> Result<Run, Status>
-    ensures runs { (seed : ℕ) → Runs (Replay save.now spec.now seed events.now) (S.texts store.old) result }
+    ensures runs { Runs (Replay save.now spec.now seed events.now) (S.texts store.old) result }
     ensures texts_stay { S.texts store.new ≡ S.texts store.old }
     ensures missing_counted { IsErrOf result Status.Missing → Rose (S.misses store.old) (S.misses store.new) }
     ensures fault_counted { IsErrOf result Status.StoreFault → Rose (S.faults store.old) (S.faults store.new) }
@@ -114,7 +117,7 @@ fn work_of_replay<S: Store>(
     let saved = store.fetch(alloc, save)?;
     let spec = store.fetch(alloc, spec)?;
     let events = store.fetch(alloc, events)?;
-    replay(alloc, &saved, &spec, &events)
+    replay(alloc, &saved, &spec, seed, &events)
 }
 
 // What the grades of a save over a specification under these names come to.
@@ -143,10 +146,11 @@ fn work_of_debug<S: Store>(
     alloc: Global,
     save: &str,
     spec: &str,
+    seed: u64,
     script: &str,
     store: &mut S,
 ) -> Result<Run, Status>
-    ensures runs { (seed : ℕ) → Runs (Debug save.now spec.now seed script.now) (S.texts store.old) result }
+    ensures runs { Runs (Debug save.now spec.now seed script.now) (S.texts store.old) result }
     ensures texts_stay { S.texts store.new ≡ S.texts store.old }
     ensures missing_counted { IsErrOf result Status.Missing → Rose (S.misses store.old) (S.misses store.new) }
     ensures fault_counted { IsErrOf result Status.StoreFault → Rose (S.faults store.old) (S.faults store.new) }
@@ -156,7 +160,7 @@ fn work_of_debug<S: Store>(
     let saved = store.fetch(alloc, save)?;
     let spec = store.fetch(alloc, spec)?;
     let script = store.fetch(alloc, script)?;
-    debug(alloc, &saved, &spec, &script)
+    debug(alloc, &saved, &spec, seed, &script)
 }
 
 // Puts a report, and says how the command ended.
@@ -209,25 +213,25 @@ fn perform<S: Store, K: Sink>(alloc: Global, command: Command, store: &mut S, ou
         Command::Run {
             save,
             spec,
+            seed,
             cycles,
-            ..
-        } => finish(work_of_run(alloc, save, spec, cycles, store), out),
+        } => finish(work_of_run(alloc, save, spec, seed, cycles, store), out),
         Command::Order {
             save,
             spec,
+            seed,
             order_seed,
             limit,
-            ..
         } => finish(
-            work_of_order(alloc, save, spec, order_seed, limit, store),
+            work_of_order(alloc, save, spec, seed, order_seed, limit, store),
             out,
         ),
         Command::Replay {
             save,
             spec,
+            seed,
             events,
-            ..
-        } => finish(work_of_replay(alloc, save, spec, events, store), out),
+        } => finish(work_of_replay(alloc, save, spec, seed, events, store), out),
         Command::Grade {
             save,
             spec,
@@ -237,9 +241,9 @@ fn perform<S: Store, K: Sink>(alloc: Global, command: Command, store: &mut S, ou
         Command::Debug {
             save,
             spec,
+            seed,
             script,
-            ..
-        } => finish(work_of_debug(alloc, save, spec, script, store), out),
+        } => finish(work_of_debug(alloc, save, spec, seed, script, store), out),
     }
 }
 

@@ -1,20 +1,23 @@
 //! A save over a specification, cycle by cycle, in an order that is drawn or handed in, or in the debugger.
-ghost use Rattle.std.specs.Prelude.{◌≡◌, ◌≤◌};
+ghost use Rattle.std.specs.Prelude.{◌≡◌, ◌≤◌, Result, IfOk};
+ghost use Rattle.tis_grid.specs.Puzzle.{Puzzle as SomePuzzle, IsPuzzle, puzzle_of};
 ghost use Rattle.tis_grid.specs.State.{Grid as SomeGrid};
 ghost use Rattle.tis_grid_text.specs.EventsText.{events_of};
 ghost use Rattle.tis_debug.specs.Scripts.{script_of};
+ghost use Rattle.tis_spec.specs.Specification.{Refusal as SpecRefusal, Specifies};
 ghost use Rattle.tis_cli.specs.Answers.{Answer};
-ghost use Rattle.tis_cli.specs.Runs.{over_grid, clocked, ordered, replayed, debugged, run_answer, order_answer, replay_answer, debug_answer};
-ghost use Rattle.tis_cli.specs.Ends.{Ends, Opens, ended_status};
+ghost use Rattle.tis_cli.specs.Runs.{over_given, over_grid, clocked, ordered, replayed, debugged, run_answer, order_answer, replay_answer, debug_answer};
+ghost use Rattle.tis_cli.specs.Ends.{Ends, Opens, OpensPuzzle, ended_status};
 
 use crate::status::{Refusal, Status};
 use std::alloc::Global;
 use tis_clock::run_making_room;
 use tis_debug::{debug_report, read_script};
-use tis_grid::{Ended, Grid, OrderError};
-use tis_grid_text::{read_events, read_grid};
+use tis_grid::{Ended, Grid, OrderError, Puzzle};
+use tis_grid_text::read_events;
 use tis_report::{ended_report, not_enabled_report, replayed_report};
 use tis_save::read_save;
+use tis_spec::read_spec;
 
 /// How a run ended, and the report that says so.
 #[derive(Drop)]
@@ -23,11 +26,22 @@ pub(crate) struct Run {
     pub(crate) report: Vec<u8>,
 }
 
-/// The grid of a save and a specification, which is looked at first.
-pub(crate) fn open_grid(alloc: Global, save: &[u8], spec: &[u8]) -> Result<Grid, Status>
-    ensures { (next : SomeGrid → Answer) → Opens result (over_grid save.now spec.now next) next }
+// The puzzle that a specification gives with a seed.
+fn open_puzzle(alloc: Global, spec: &[u8], seed: u64) -> Result<Puzzle, Status>
+    ensures opens { (given : Result SomePuzzle SpecRefusal) (next : SomePuzzle → Answer) → Specifies spec.now seed given → OpensPuzzle result (over_given given next) next }
+    ensures puzzle { IfOk result (λ made. IsPuzzle (puzzle_of made)) }
 {
-    let puzzle = read_grid(alloc, spec)?;
+    match read_spec(alloc, spec, seed) {
+        Ok(puzzle) => Ok(puzzle),
+        Err(why) => Err(Status::from(why)),
+    }
+}
+
+/// The grid of a save and of what a specification gives with a seed, which is looked at first.
+pub(crate) fn open_grid(alloc: Global, save: &[u8], spec: &[u8], seed: u64) -> Result<Grid, Status>
+    ensures { (given : Result SomePuzzle SpecRefusal) (next : SomeGrid → Answer) → Specifies spec.now seed given → Opens result (over_grid save.now given next) next }
+{
+    let puzzle = open_puzzle(alloc, spec, seed)?;
     let programs = read_save(alloc, save, puzzle.tiles)?;
     Ok(Grid::new(puzzle, programs))
 }
@@ -56,10 +70,16 @@ fn run_clocked(alloc: Global, grid: &Grid, cycles: u64) -> Result<Run, Status>
 }
 
 /// What a run by the clock comes to.
-pub(crate) fn clock(alloc: Global, save: &[u8], spec: &[u8], cycles: u64) -> Result<Run, Status>
-    ensures { Ends result (run_answer save.now spec.now cycles) }
+pub(crate) fn clock(
+    alloc: Global,
+    save: &[u8],
+    spec: &[u8],
+    seed: u64,
+    cycles: u64,
+) -> Result<Run, Status>
+    ensures { (given : Result SomePuzzle SpecRefusal) → Specifies spec.now seed given → Ends result (run_answer save.now given cycles) }
 {
-    let grid = open_grid(alloc, save, spec)?;
+    let grid = open_grid(alloc, save, spec, seed)?;
     run_clocked(alloc, &grid, cycles)
 }
 
@@ -76,18 +96,19 @@ fn run_drawn(alloc: Global, grid: &Grid, seed: u64, limit: u64) -> Result<Run, S
     })
 }
 
-/// What an order comes to that is drawn with this seed.
+/// What an order comes to that is drawn with its own seed.
 pub(crate) fn order(
     alloc: Global,
     save: &[u8],
     spec: &[u8],
     seed: u64,
+    order_seed: u64,
     limit: u64,
 ) -> Result<Run, Status>
-    ensures { Ends result (order_answer save.now spec.now seed limit) }
+    ensures { (given : Result SomePuzzle SpecRefusal) → Specifies spec.now seed given → Ends result (order_answer save.now given order_seed limit) }
 {
-    let grid = open_grid(alloc, save, spec)?;
-    run_drawn(alloc, &grid, seed, limit)
+    let grid = open_grid(alloc, save, spec, seed)?;
+    run_drawn(alloc, &grid, order_seed, limit)
 }
 
 // Runs a grid from its start by these events.
@@ -110,10 +131,16 @@ fn run_events(alloc: Global, grid: &Grid, text: &[u8]) -> Result<Run, Status>
 }
 
 /// What an order comes to that is handed in.
-pub(crate) fn replay(alloc: Global, save: &[u8], spec: &[u8], events: &[u8]) -> Result<Run, Status>
-    ensures { Ends result (replay_answer save.now spec.now events.now) }
+pub(crate) fn replay(
+    alloc: Global,
+    save: &[u8],
+    spec: &[u8],
+    seed: u64,
+    events: &[u8],
+) -> Result<Run, Status>
+    ensures { (given : Result SomePuzzle SpecRefusal) → Specifies spec.now seed given → Ends result (replay_answer save.now given events.now) }
 {
-    let grid = open_grid(alloc, save, spec)?;
+    let grid = open_grid(alloc, save, spec, seed)?;
     run_events(alloc, &grid, events)
 }
 
@@ -130,9 +157,15 @@ fn run_script(alloc: Global, grid: &Grid, text: &[u8]) -> Result<Run, Status>
 }
 
 /// What a session of the debugger comes to.
-pub(crate) fn debug(alloc: Global, save: &[u8], spec: &[u8], script: &[u8]) -> Result<Run, Status>
-    ensures { Ends result (debug_answer save.now spec.now script.now) }
+pub(crate) fn debug(
+    alloc: Global,
+    save: &[u8],
+    spec: &[u8],
+    seed: u64,
+    script: &[u8],
+) -> Result<Run, Status>
+    ensures { (given : Result SomePuzzle SpecRefusal) → Specifies spec.now seed given → Ends result (debug_answer save.now given script.now) }
 {
-    let grid = open_grid(alloc, save, spec)?;
+    let grid = open_grid(alloc, save, spec, seed)?;
     run_script(alloc, &grid, script)
 }

@@ -2,6 +2,7 @@
 ghost use Rattle.std.specs.Prelude.{◌≡◌};
 ghost use Rattle.tis_cli.specs.Statuses.{number_of};
 
+use lua_syntax::LuaSyntax;
 use net_column::FormError;
 use net_rules::RuleError;
 use net_syntax::NetError;
@@ -9,10 +10,12 @@ use tis_base::{NoMemory, SinkError, StoreError};
 use tis_debug::ScriptError;
 use tis_grade::Verdict;
 use tis_grid_text::{EventsError, GridTextError};
+use tis_puzzle::PuzzleError;
 use tis_save::SaveError;
+use tis_spec::SpecError;
 
 /// Why a text was refused.
-#[derive(Clone, Copy, Debug, PartialEq, Eq, Hash)]
+#[derive(Clone, Copy, Debug, PartialEq, Eq)]
 pub enum Refusal {
     /// The network isn't of the form that is taken so far.
     NotThisForm,
@@ -22,8 +25,12 @@ pub enum Refusal {
     Rule(RuleError),
     /// The text isn't a save of these tiles.
     Save(SaveError),
-    /// The specification isn't a grid text.
+    /// The text isn't a grid text: of a specification, it begins as one.
     Grid(GridTextError),
+    /// The specification is neither a grid text nor a chunk of Lua.
+    Syntax(LuaSyntax),
+    /// The functions of the specification give no puzzle.
+    Puzzle(PuzzleError),
     /// The line names no event.
     Events { line: usize },
     /// The event with this number, from 0 on, can't happen in its turn.
@@ -33,7 +40,7 @@ pub enum Refusal {
 }
 
 /// How a call of `tool` ended.
-#[derive(Clone, Copy, Debug, PartialEq, Eq, Hash)]
+#[derive(Clone, Copy, Debug, PartialEq, Eq)]
 pub enum Status {
     /// It did what the words say.
     Done,
@@ -166,6 +173,49 @@ impl From<GridTextError> for Status {
         match error {
             GridTextError::NoMemory => Status::NoMemory,
             _ => Status::Refused(Refusal::Grid(error)),
+        }
+    }
+}
+
+impl From<LuaSyntax> for Status {
+    ghost use Rattle.std.specs.Prelude.{◌≡◌};
+    ghost use Rattle.tis_cli.specs.Statuses.{chunk_status};
+
+    ghost from_gives = { λ error status. status ≡ chunk_status error };
+
+    fn from(error: LuaSyntax) -> Self {
+        match error {
+            LuaSyntax::NoMemory => Status::NoMemory,
+            _ => Status::Refused(Refusal::Syntax(error)),
+        }
+    }
+}
+
+impl From<PuzzleError> for Status {
+    ghost use Rattle.std.specs.Prelude.{◌≡◌};
+    ghost use Rattle.tis_cli.specs.Statuses.{puzzle_status};
+
+    ghost from_gives = { λ error status. status ≡ puzzle_status error };
+
+    fn from(error: PuzzleError) -> Self {
+        match error {
+            PuzzleError::NoMemory => Status::NoMemory,
+            _ => Status::Refused(Refusal::Puzzle(error)),
+        }
+    }
+}
+
+impl From<SpecError> for Status {
+    ghost use Rattle.std.specs.Prelude.{◌≡◌};
+    ghost use Rattle.tis_cli.specs.Statuses.{spec_status};
+
+    ghost from_gives = { λ error status. status ≡ spec_status error };
+
+    fn from(error: SpecError) -> Self {
+        match error {
+            SpecError::Grid(error) => Status::from(error),
+            SpecError::Syntax(error) => Status::from(error),
+            SpecError::Puzzle(error) => Status::from(error),
         }
     }
 }

@@ -1,4 +1,4 @@
--- The ports of a specification: what the list that `get_streams` gives comes to, entry by entry.
+-- The inputs and outputs of a specification: what the list that `get_streams` gives comes to, entry by entry.
 use Rattle.std.specs.Prelude.{ℕ, suc, ℤ, pos, negsuc, Bool, ◌&&◌, List, [], ◌∷◌, length, replicate, Option, Some, None, option_map, option_and_then, Result, Ok, Err, nat_le, int_le, if◌then◌else◌}
 use Rattle.std.specs.Ordering.{int_eq}
 use Rattle.tis_base.specs.declared.tiles.TileKind.TheVariants.{Damaged}
@@ -7,7 +7,7 @@ use Rattle.tis_grid.specs.Puzzle.{Puzzle, Port, input_at, output_at, is_taken, w
 use Rattle.lua_machine.specs.Answer.{PlainValue}
 use Rattle.lua_plain.specs.Plain.{number_in, is_text, list_in}
 
--- why entries are no ports, with the number of the entry from 1 on; 0 where there is no list of entries
+-- why entries are no inputs and outputs, with the number of the entry from 1 on; 0 where there is no list of entries
 pub data Refusal : Type 0 where
   BadStreams : (index : ℕ) → Refusal
   SamePlace : (index : ℕ) → Refusal
@@ -47,14 +47,14 @@ column_of (negsuc number) = None
 abbrev pub column_in : PlainValue → Option ℕ
 column_in value = option_and_then column_of (number_in value)
 
--- a port of a kind, 0 an input, 1 an output and 2 an image, at a column, with these values
+-- an input (kind 0), an output (1) or an image (2) at a column, with these values
 abbrev pub port_with : ℤ → Option ℕ → Option (List ℤ) → Option Port
 port_with kind column values =
     if int_eq kind (pos 0) then input_at column (option_and_then (only_if is_short) values)
     else (if int_eq kind (pos 1) then output_at Stream column (option_and_then (only_if is_short) values)
     else (if int_eq kind (pos 2) then output_at Image column (option_and_then (only_if is_picture) values) else None))
 
--- the port of an entry: its first four values are the kind, a text, the position and the list of values, and more of them aren't looked at
+-- the input or output of an entry: its first four values are the kind, a text, the position and the list of values, and more of them aren't looked at
 abbrev pub port_of_values : List PlainValue → Option Port
 port_of_values (kind ∷ name ∷ position ∷ values ∷ others) = if is_text name then option_and_then (λ number. port_with number (column_in position) (values_in values)) (number_in kind) else None
 port_of_values _ = None
@@ -64,7 +64,7 @@ port_of entry = option_and_then port_of_values (list_in entry)
 
 -- ---- entry by entry
 
--- the puzzle with the port of an entry
+-- the puzzle with the input or output of an entry
 abbrev pub with_entry : Puzzle → ℕ → Option Port → Result Puzzle Refusal
 with_entry puzzle index None = Err (BadStreams index)
 with_entry puzzle index (Some port) = if is_taken puzzle port then Err (SamePlace index) else Ok (with_port puzzle port)
@@ -74,7 +74,7 @@ abbrev pub goes_on : Result Puzzle Refusal → (Puzzle → Result Puzzle Refusal
 goes_on (Ok puzzle) next = next puzzle
 goes_on (Err refusal) next = Err refusal
 
--- the puzzle with the ports of these entries, of which the first has this number, up to the first wrong one
+-- the puzzle with the inputs and outputs of these entries, of which the first has this number, up to the first wrong one
 abbrev pub with_entries : Puzzle → ℕ → List PlainValue → Result Puzzle Refusal
 with_entries puzzle index [] = Ok puzzle
 with_entries puzzle index (entry ∷ entries) = goes_on (with_entry puzzle index (port_of entry)) (λ more. with_entries more (suc index) entries)
@@ -83,7 +83,7 @@ with_entries puzzle index (entry ∷ entries) = goes_on (with_entry puzzle index
 abbrev pub unknown : Puzzle
 unknown = bare (replicate 12 Damaged)
 
--- the ports of what `get_streams` gives, where it is a list
+-- the inputs and outputs of what `get_streams` gives, where it is a list
 abbrev pub ports_of_list : Option (List PlainValue) → Result Puzzle Refusal
 ports_of_list (Some entries) = with_entries unknown 1 entries
 ports_of_list None = Err (BadStreams 0)

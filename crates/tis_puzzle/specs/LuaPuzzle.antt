@@ -43,7 +43,7 @@ pub data Refusal : Type 0 where
   RunsOutOfUnits : Wanted → Refusal
   -- what `get_streams` gives isn't what it has to be
   BadEntry : entries.Refusal → Refusal
-  -- the value of `get_layout` with this number isn't
+  -- the value of `get_layout` with this number isn't a tile; 0 where there is no list of twelve
   BadLayout : (index : ℕ) → Refusal
 
 -- the first of these functions that isn't defined

@@ -10,7 +10,7 @@ use Rattle.tis_grid_text.specs.GridText.{is_grid_text, grid_of}
 use Rattle.tis_puzzle.specs.LuaPuzzle as lua
 use Rattle.tis_puzzle.specs.LuaPuzzle.{LuaPuzzle}
 
--- why a specification has no puzzle: a line of a grid text is wrong, a token of a chunk is, or what the chunk's functions give is
+-- why a specification has no puzzle: a line of a grid text is wrong, or a token of a chunk; or one of the chunk's functions isn't there, faults, or gives what it mustn't
 pub data Refusal : Type 0 where
   NoGrid : text.Refusal → Refusal
   NoChunk : LuaRefusal → Refusal

@@ -1,5 +1,7 @@
 -- What follows over the cases so far and the seeds that are left.
-use Rattle.std.proofs.Common.{◌≡◌, List, [], drop}
+use Rattle.std.proofs.Common.{◌≡◌, ℕ, List, [], drop, Result}
+use Rattle.tis_grid.specs.Puzzle.{Puzzle}
+use Rattle.tis_spec.specs.Specification.{Refusal, Specifies}
 use Rattle.tis_grade.specs.declared.cases.Case.{Case}
 use Rattle.tis_cli.specs.Answers.{Answer}
 use Rattle.tis_cli.specs.Commands.{kept_seeds}
@@ -8,4 +10,7 @@ use Rattle.tis_cli.proofs.grades.open_cases.Given as goal
 
 abbrev pub invariant-loop-seed : goal.invariant-loop-seed
 invariant-loop-seed l =
-    record { follows : (next : List Case → Answer) → over_cases l.save l.spec [] (kept_seeds l.seeds) next ≡ over_cases l.save l.spec l.cases.items (kept_seeds (drop l.seed-index l.seeds)) next }
+    record {
+      follows : (given : ℕ → Result Puzzle Refusal) (next : List Case → Answer) → ((each : ℕ) → Specifies l.spec each (given each)) →
+          over_cases l.save given [] (kept_seeds l.seeds) next ≡ over_cases l.save given l.cases.items (kept_seeds (drop l.seed-index l.seeds)) next;
+    }

@@ -1,7 +1,17 @@
-use Rattle.tis_cli.proofs.Fetching.{order_runs}
+use Rattle.std.proofs.Common.{Result}
+use Rattle.tis_grid.specs.Puzzle.{Puzzle}
+use Rattle.tis_spec.specs.Specification.{Refusal}
+use Rattle.tis_cli.specs.Runs.{order_answer}
+use Rattle.tis_cli.proofs.Fetching.{order_runs, not_missing, not_faulted}
 use Rattle.tis_cli.proofs.run.work_of_order.Goals as goal
 
 pub returns-clause-runs : goal.returns-clause-runs
-returns-clause-runs g c seed =
-    order_runs (g.S.Store.texts c.args.store.now) (g.S.Store.texts c.fetch.new.self) c.args.save.now c.args.spec.now c.in_ok-saved.saved.items c.in_ok-spec.spec.items c.deref.result.now c.deref-2.result.now seed c.args.order_seed c.args.limit c.order.result
+returns-clause-runs g c =
+    order_runs (g.S.Store.texts c.args.store.now) (g.S.Store.texts c.fetch.new.self) c.args.save.now c.args.spec.now c.in_ok-saved.saved.items c.in_ok-spec.spec.items c.deref.result.now c.deref-2.result.now c.args.seed c.args.order_seed c.args.limit c.order.result
     c.in_ok-saved.ensures.texts_stay c.in_ok-saved.ensures.ok c.in_ok-spec.ensures.ok c.deref.ensures.value c.deref-2.ensures.value c.order.ensures
+
+pub returns-clause-missing_counted : goal.returns-clause-missing_counted
+returns-clause-missing_counted g c is = absurd (not_missing c.deref-2.result.now c.args.seed (λ (given : Result Puzzle Refusal). order_answer c.deref.result.now given c.args.order_seed c.args.limit) c.order.result c.order.ensures is)
+
+pub returns-clause-fault_counted : goal.returns-clause-fault_counted
+returns-clause-fault_counted g c is = absurd (not_faulted c.deref-2.result.now c.args.seed (λ (given : Result Puzzle Refusal). order_answer c.deref.result.now given c.args.order_seed c.args.limit) c.order.result c.order.ensures is)

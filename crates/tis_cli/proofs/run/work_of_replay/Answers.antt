@@ -1,7 +1,17 @@
-use Rattle.tis_cli.proofs.Fetching.{replay_runs}
+use Rattle.std.proofs.Common.{Result}
+use Rattle.tis_grid.specs.Puzzle.{Puzzle}
+use Rattle.tis_spec.specs.Specification.{Refusal}
+use Rattle.tis_cli.specs.Runs.{replay_answer}
+use Rattle.tis_cli.proofs.Fetching.{replay_runs, not_missing, not_faulted}
 use Rattle.tis_cli.proofs.run.work_of_replay.Goals as goal
 
 pub returns-clause-runs : goal.returns-clause-runs
-returns-clause-runs g c seed =
-    replay_runs (g.S.Store.texts c.args.store.now) (g.S.Store.texts c.fetch.new.self) (g.S.Store.texts c.fetch-2.new.self) c.args.save.now c.args.spec.now c.args.events.now c.in_ok-saved.saved.items c.in_ok-spec.spec.items c.in_ok-events.events.items c.deref.result.now c.deref-2.result.now c.deref-3.result.now seed c.replay.result
+returns-clause-runs g c =
+    replay_runs (g.S.Store.texts c.args.store.now) (g.S.Store.texts c.fetch.new.self) (g.S.Store.texts c.fetch-2.new.self) c.args.save.now c.args.spec.now c.args.events.now c.in_ok-saved.saved.items c.in_ok-spec.spec.items c.in_ok-events.events.items c.deref.result.now c.deref-2.result.now c.deref-3.result.now c.args.seed c.replay.result
     c.in_ok-saved.ensures.texts_stay c.in_ok-spec.ensures.texts_stay c.in_ok-saved.ensures.ok c.in_ok-spec.ensures.ok c.in_ok-events.ensures.ok c.deref.ensures.value c.deref-2.ensures.value c.deref-3.ensures.value c.replay.ensures
+
+pub returns-clause-missing_counted : goal.returns-clause-missing_counted
+returns-clause-missing_counted g c is = absurd (not_missing c.deref-2.result.now c.args.seed (λ (given : Result Puzzle Refusal). replay_answer c.deref.result.now given c.deref-3.result.now) c.replay.result c.replay.ensures is)
+
+pub returns-clause-fault_counted : goal.returns-clause-fault_counted
+returns-clause-fault_counted g c is = absurd (not_faulted c.deref-2.result.now c.args.seed (λ (given : Result Puzzle Refusal). replay_answer c.deref.result.now given c.deref-3.result.now) c.replay.result c.replay.ensures is)

@@ -7,10 +7,10 @@ use Rattle.tis_cli.proofs.runs.clock.Goals as goal
 
 pub returns-in_err-grid : goal.returns-in_err-grid
 unfolding run_answer
-returns-in_err-grid c =
+returns-in_err-grid c given gives =
     let p = err_from_is_err_and c.from_residual.result c.from_residual.ensures.1 in
-    rw (p.1, p.2) (c.in_err-grid.ensures (clocked c.args.cycles))
+    rw (p.1, p.2) (c.in_err-grid.ensures given (clocked c.args.cycles) gives)
 
 pub returns : goal.returns
 unfolding run_answer
-returns c = subst (λ (a : Answer). Ends c.run_clocked.result a) (sym (c.in_ok-grid.ensures (clocked c.args.cycles))) c.run_clocked.ensures
+returns c given gives = subst (λ (a : Answer). Ends c.run_clocked.result a) (sym (c.in_ok-grid.ensures given (clocked c.args.cycles) gives)) c.run_clocked.ensures

@@ -8,10 +8,10 @@ use Rattle.tis_cli.proofs.runs.debug.Goals as goal
 
 pub returns-in_err-grid : goal.returns-in_err-grid
 unfolding debug_answer
-returns-in_err-grid c =
+returns-in_err-grid c given gives =
     let p = err_from_is_err_and c.from_residual.result c.from_residual.ensures.1 in
-    rw (p.1, p.2) (c.in_err-grid.ensures (debugged (script_of c.args.script.now)))
+    rw (p.1, p.2) (c.in_err-grid.ensures given (debugged (script_of c.args.script.now)) gives)
 
 pub returns : goal.returns
 unfolding debug_answer
-returns c = subst (λ (a : Answer). Ends c.run_script.result a) (sym (c.in_ok-grid.ensures (debugged (script_of c.args.script.now)))) c.run_script.ensures
+returns c given gives = subst (λ (a : Answer). Ends c.run_script.result a) (sym (c.in_ok-grid.ensures given (debugged (script_of c.args.script.now)) gives)) c.run_script.ensures

@@ -8,10 +8,10 @@ use Rattle.tis_cli.proofs.runs.replay.Goals as goal
 
 pub returns-in_err-grid : goal.returns-in_err-grid
 unfolding replay_answer
-returns-in_err-grid c =
+returns-in_err-grid c given gives =
     let p = err_from_is_err_and c.from_residual.result c.from_residual.ensures.1 in
-    rw (p.1, p.2) (c.in_err-grid.ensures (replayed (events_of c.args.events.now)))
+    rw (p.1, p.2) (c.in_err-grid.ensures given (replayed (events_of c.args.events.now)) gives)
 
 pub returns : goal.returns
 unfolding replay_answer
-returns c = subst (λ (a : Answer). Ends c.run_events.result a) (sym (c.in_ok-grid.ensures (replayed (events_of c.args.events.now)))) c.run_events.ensures
+returns c given gives = subst (λ (a : Answer). Ends c.run_events.result a) (sym (c.in_ok-grid.ensures given (replayed (events_of c.args.events.now)) gives)) c.run_events.ensures
