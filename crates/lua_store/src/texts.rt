@@ -26,6 +26,7 @@ impl Model for HeldTexts {
 }
 
 // A number below 256 that most names have for themselves.
+#[inline(always)]
 fn number_of(bytes: &[u8]) -> usize
     ensures { result < 256 }
 {
@@ -37,6 +38,7 @@ fn number_of(bytes: &[u8]) -> usize
 }
 
 // The same of the first and the last byte and the length.
+#[inline(always)]
 fn ends_number(first: u8, last: u8, len: usize) -> usize
     ensures { result < 256 }
 {
@@ -45,6 +47,7 @@ fn ends_number(first: u8, last: u8, len: usize) -> usize
 }
 
 // Whether a text stands at a place.
+#[inline(always)]
 fn stands_at(texts: &[Vec<u8>], at: usize, bytes: &[u8]) -> bool
     ensures { IsTrue result → (at < length (map (λ text. text.items) texts.now)) × (get_or (map (λ text. text.items) texts.now) at [] ≡ bytes.now) }
 {
@@ -80,6 +83,7 @@ impl HeldTexts {
     }
 
     // The place of a text by its hash, where it is held from then on.
+    #[inline(never)]
     fn look_up(&mut self, alloc: Global, bytes: &[u8]) -> Result<usize, NoMemory>
         ensures place { IfOk result (λ at. (at < length self.new) × (get_or self.new at [] ≡ bytes.now)) }
         ensures held { OnOk result (self.new ≡ with_text self.old bytes.now) }
@@ -94,6 +98,7 @@ impl HeldTexts {
         Ok(at)
     }
     /// The place of a text, which is held from then on.
+    #[inline(always)]
     pub fn hold(&mut self, alloc: Global, bytes: &[u8]) -> Result<usize, NoMemory>
         ensures place { IfOk result (λ at. (at < length self.new) × (get_or self.new at [] ≡ bytes.now)) }
         ensures held { OnOk result (self.new ≡ with_text self.old bytes.now) }
