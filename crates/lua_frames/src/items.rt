@@ -55,6 +55,7 @@ impl<'a> Machine<'a> {
     }
 
     /// Begins the next assignment of a chunk, or the function that was called, where none is left.
+    #[inline(never)]
     pub fn assign_items(
         &mut self,
         alloc: Global,

@@ -133,6 +133,7 @@ impl<'a> Machine<'a> {
     }
 
     // The values of all parts are there.
+    #[inline(never)]
     pub(crate) fn make(
         &mut self,
         alloc: Global,
@@ -160,6 +161,7 @@ impl<'a> Machine<'a> {
     }
 
     // Begins the next part, where so many values are there, and this is behind it.
+    #[inline(always)]
     fn begin_next(
         &mut self,
         making: Making<'a>,
@@ -174,6 +176,7 @@ impl<'a> Machine<'a> {
     }
 
     /// The parts that are left, where the newest so many values are those of the parts before.
+    #[inline(always)]
     pub(crate) fn go_on(
         &mut self,
         alloc: Global,

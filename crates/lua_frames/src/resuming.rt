@@ -25,6 +25,7 @@ use std::alloc::Global;
 impl<'a> Machine<'a> {
     // The value of a part is there, behind those of so many before it.
     #[tactic(auto, using(crate::proofs::Parted::one_part_more, crate::proofs::Parted::without_one_more))]
+    #[inline(always)]
     pub(crate) fn part(
         &mut self,
         alloc: Global,
@@ -126,6 +127,7 @@ impl<'a> Machine<'a> {
     }
 
     // The test of a `while` is there.
+    #[inline(never)]
     pub(crate) fn while_test(
         &mut self,
         way: Way,
@@ -148,6 +150,7 @@ impl<'a> Machine<'a> {
     }
 
     // The test of a `repeat` is there.
+    #[inline(never)]
     pub(crate) fn repeat_test(
         &mut self,
         way: Way,

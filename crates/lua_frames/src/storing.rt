@@ -17,6 +17,7 @@ use std::alloc::Global;
 
 impl<'a> Machine<'a> {
     // The value of an entry without a key is there.
+    #[inline(never)]
     pub(crate) fn next_entry(
         &mut self,
         way: Way,
@@ -37,6 +38,7 @@ impl<'a> Machine<'a> {
     }
 
     // The value of an entry with a name is there.
+    #[inline(never)]
     pub(crate) fn named_entry(
         &mut self,
         alloc: Global,

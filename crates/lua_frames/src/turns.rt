@@ -29,6 +29,7 @@ pub enum Step<'a> {
 }
 
 // Takes the innermost frame.
+#[inline(always)]
 fn pop_frame<'a>(frames: &mut Vec<Frame<'a>>) -> Option<Frame<'a>>
     ensures { MatchOption result (frames.old.items ≡ []) (λ frame. reverse frames.old.items ≡ frame ∷ reverse frames.new.items) }
 {
@@ -36,6 +37,7 @@ fn pop_frame<'a>(frames: &mut Vec<Frame<'a>>) -> Option<Frame<'a>>
 }
 
 // A turn that came to a place of the machine.
+#[inline(always)]
 fn next<'a>(control: Result<Control<'a>, LuaError>) -> Result<Step<'a>, LuaError>
     ensures { (now : Machine) (wanted : Turned) → Turns control.entry now wanted → Steps result now wanted }
 {
@@ -47,6 +49,7 @@ fn next<'a>(control: Result<Control<'a>, LuaError>) -> Result<Step<'a>, LuaError
 
 impl<'a> Machine<'a> {
     // Goes on with a frame that was the innermost one.
+    #[inline(always)]
     fn resume(
         &mut self,
         alloc: Global,
@@ -83,6 +86,7 @@ impl<'a> Machine<'a> {
     }
 
     // Goes on with the innermost frame, or ends where none waits.
+    #[inline(always)]
     fn back(&mut self, alloc: Global, main: Function<'a>, way: Way) -> Result<Step<'a>, LuaError>
         ensures { Steps result self.new (back_at (function_in main.entry) (frames_with self.old (beside_way way (store_in self.old))) (way_in way (store_in self.old)) self.old.calls (state_in self.old) self.old.units) }
     {
@@ -102,6 +106,7 @@ impl<'a> Machine<'a> {
     }
 
     /// A turn in a call of a function of the chunk.
+    #[inline(always)]
     pub fn turn(
         &mut self,
         alloc: Global,

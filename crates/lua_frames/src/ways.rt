@@ -29,6 +29,7 @@ pub enum Way {
 }
 
 /// What comes back is the newest value from now on; it is nil where none does.
+#[inline(always)]
 pub fn take_back(state: &mut LuaState, way: Way) -> Result<(), NoMemory>
     ensures { OnOk result (store_of state.new ≡ pushed (value_in (way_in way (store_of state.old))) (beside_way way (store_of state.old))) }
 {
@@ -68,6 +69,7 @@ impl<'a> Machine<'a> {
     }
 
     // The body of a `while` ended.
+    #[inline(never)]
     pub(crate) fn while_body(
         &mut self,
         way: Way,
@@ -89,6 +91,7 @@ impl<'a> Machine<'a> {
     }
 
     // The body of a `repeat` ended; its test sees its locals.
+    #[inline(never)]
     pub(crate) fn repeat_body(
         &mut self,
         way: Way,

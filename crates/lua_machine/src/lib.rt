@@ -1,6 +1,6 @@
 //! What chunks of Lua compute.
 //!
-//! So far this is the meaning alone, for whoever reads it beside the language: `Yields` of `specs/Answer.antt`
+//! This is the meaning alone, for whoever reads it beside the language: `Yields` of `specs/Answer.antt`
 //! says what a call of a function of a chunk gives, with its cost in units, and `specs/Yields.antt` has one
 //! case or more for each kind of node, over values (`Value.antt`), tables as numbered rows (`Tables.antt`), variables and
 //! the generator of random words (`State.antt`). What operators and the libraries make of values are functions
@@ -14,7 +14,7 @@
 //! `laws` says that a call gives one answer at most, and that it gives one or runs out; that turns come to an answer at
 //! a cost exactly where the call gives it at that cost; that the call runs out exactly where turns come to pay more units
 //! than may be paid; and that each turn pays a unit, or leaves fewer turns that may come before the next one is paid.
-//! Nothing here evaluates a chunk yet.
+//! Nothing here evaluates a chunk: `call` of `lua_call` does, by a machine that takes these turns.
 #![tactic(auto)]
 
 mod error;

@@ -32,6 +32,7 @@ pub(crate) struct HeldState {
 
 impl HeldState {
     // The place of a text, which is held from then on.
+    #[inline(always)]
     pub(crate) fn hold(&mut self, alloc: Global, bytes: &[u8]) -> Result<usize, NoMemory>
         requires { IsSound self.old }
         ensures place { IfOk result (λ at. (at < length self.new.texts) × (get_or self.new.texts at [] ≡ bytes.now)) }

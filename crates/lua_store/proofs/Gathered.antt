@@ -5,6 +5,7 @@ use Rattle.std.specs.List.{position, prefix_len, list_any, IsDistinct}
 use Rattle.std.specs.Str.{bytes_eq}
 use Rattle.std.proofs.lemmas.Bool.Decides.{Decides-ltb, nat_tests}
 use Rattle.std.proofs.lemmas.List.{get_or-map, length-map, map-append}
+use Rattle.std.proofs.lemmas.List.Folds.{list_any_at}
 use Rattle.std.proofs.lemmas.List.Quantifiers.{position-Some}
 use Rattle.std.proofs.lemmas.Map.Keys.{apart_from_distinct}
 use Rattle.std.proofs.lemmas.Slice.Eq.{bytes_eq-Decides}
@@ -28,7 +29,11 @@ module _ {X : Type 0} (bytes_of : X → List ℕ) where
       let found = position-Some (bytes_eq bytes) (map bytes_of held) at [] (sym (placed (bytes_eq bytes) held) ∙ e) in
       (found.0, sym ((bytes_eq-Decides _ _).0 found.1))
 
-  -- and it is one of those that are held
+  -- and so is one that stands at a place
+  pub text_stands : (bytes : List ℕ) (held : List X) (at : ℕ) (x : X) → at < length held → get_or held at x ≡ x → bytes_of x ≡ bytes → (at < length (map bytes_of held)) × (get_or (map bytes_of held) at [] ≡ bytes)
+  text_stands bytes held at x inside is same = (omega (arith, inside, length-map held bytes_of), get_or-map bytes_of held at x [] inside ∙ ap bytes_of is ∙ same)
+
+  -- it is one of those that are held
   pub text_known : (bytes : List ℕ) (held : List X) → list_any (λ x. bytes_eq bytes (bytes_of x)) held ≡ true → map bytes_of held ≡ with_text (map bytes_of held) bytes
   text_known bytes held e = sym (ap (λ b. cond b (map bytes_of held) (map bytes_of held ++ bytes ∷ [])) (sym (any_held (bytes_eq bytes) held) ∙ e))
 
@@ -57,3 +62,8 @@ module _ {X : Type 0} (bytes_of : X → List ℕ) where
       by true y p q = absurd (one_behind held distinct a b ((Decides-ltb a b).0 p) k e)
       by false true p q = absurd (one_behind held distinct b a ((Decides-ltb b a).0 q) h (sym e))
       by false false p q = grind (arith, nat_tests, p, q)
+
+-- a text that stands at a place is held already
+pub text_there : (bytes : List ℕ) (texts : List (List ℕ)) (at : ℕ) → at < length texts → get_or texts at [] ≡ bytes → texts ≡ with_text texts bytes
+text_there bytes texts at inside is =
+    sym (ap (λ b. cond b texts (texts ++ bytes ∷ [])) (list_any_at (bytes_eq bytes) texts at [] inside ((bytes_eq-Decides _ _).1 (sym is))))
