@@ -13,7 +13,7 @@
 //! state.assign(alloc, b"a")?;
 //! ```
 //!
-//! A name is looked up by a hash of its bytes, then among the locals of the function from the innermost on, and then among the globals
+//! A name is looked for among the texts that are held, then among the locals of the function from the innermost on, and then among the globals
 //! by a hash, so a look-up takes time with the number of locals in scope. A new text takes memory, and so does a value that is put, now and then; no call copies a table
 //! or a list of variables.
 //!

@@ -15,8 +15,9 @@
 //! tables.set(table, key, SmallValue::Truth(true))?;
 //! ```
 //!
-//! A text is looked up by a hash of its bytes, and a key by a hash of a few. The border of a table is kept with it: a value that
-//! is put right behind it moves it on, over the keys that are there already, one look-up for each. No row and no text is given back before all of them are.
+//! A text is looked for first where the last one with its ends and its length stood, and else by a hash of its bytes; a key is looked
+//! up by a hash of a few. The border of a table is kept with it: a value that is put right behind it moves it on, over the keys that
+//! are there already, one look-up for each. No row and no text is given back before all of them are.
 //! Faults, their lines and the units that an evaluation pays are for the caller.
 #![tactic(auto)]
 
