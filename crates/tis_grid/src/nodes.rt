@@ -138,7 +138,7 @@ impl State {
         if !writes(&self.nodes[index]) {
             return intent;
         }
-        self.writing.put(tile, true);
+        self.writing.add(tile);
         intent
     }
 }

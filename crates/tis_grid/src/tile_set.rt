@@ -1,5 +1,5 @@
 //! Sets of tiles.
-ghost use Rattle.std.specs.Prelude.{◌≡◌, ◌≢◌, ◌<◌, ◌^◌, ◌&&◌, IsTrue, IfSome, ℕ, None, false, length, not, replicate, slice_set};
+ghost use Rattle.std.specs.Prelude.{◌≡◌, ◌≢◌, ◌<◌, ◌^◌, ◌&&◌, IsTrue, IfSome, ℕ, None, true, false, length, not, replicate, slice_set};
 ghost use Rattle.std.specs.Int.{trailing_zeros, w32};
 ghost use Rattle.tis_grid.specs.TileSets.{has, is_set, IsFirst};
 
@@ -111,6 +111,15 @@ impl TileSet {
         ensures { self.new ≡ slice_set self.old tile.number is_in }
     {
         self.bits = with_bit(self.bits, tile.number, is_in);
+    }
+
+    /// Puts a tile into the set. It stands out of line, for loops that seldom come to it.
+    #[inline(never)]
+    pub fn add(&mut self, tile: Tile)
+        requires { tile.number < length self.old }
+        ensures { self.new ≡ slice_set self.old tile.number true }
+    {
+        self.put(tile, true);
     }
 
     /// Takes the first tile out of the set that has one.

@@ -21,8 +21,8 @@ pub(crate) struct Row {
     // The port that it writes to, if it needs none to go on and writes to one whatever the node did before.
     pub(crate) sends: Option<Dir>,
     // How many times ACC and BAK are in the new ACC, and the number besides.
-    pub(crate) of_acc: i8,
-    pub(crate) of_bak: i8,
+    pub(crate) of_acc: i16,
+    pub(crate) of_bak: i16,
     pub(crate) plus: i16,
     // Whether BAK becomes ACC.
     pub(crate) saves: bool,
@@ -32,10 +32,10 @@ pub(crate) struct Row {
 
 // So many times a value.
 #[inline(always)]
-fn times(count: i8, value: Value) -> i64
+fn times(count: i16, value: Value) -> i64
     ensures is { result ≡ count *ℤ value }
-    ensures least { negsuc 127871 ≤ℤ result }
-    ensures most { result ≤ℤ pos 127872 }
+    ensures least { negsuc 32735231 ≤ℤ result }
+    ensures most { result ≤ℤ pos 32735232 }
 {
     i64::from(count) * value.get()
 }
@@ -109,7 +109,7 @@ fn waiting(port: Dir) -> Row
 }
 
 // The row of an instruction that writes so many times ACC and a number to a port.
-fn sending(of_acc: i8, plus: i16, port: Dir) -> Row
+fn sending(of_acc: i16, plus: i16, port: Dir) -> Row
     ensures { result ≡ rows.sending of_acc plus port }
 {
     Row {
@@ -125,7 +125,7 @@ fn sending(of_acc: i8, plus: i16, port: Dir) -> Row
 }
 
 // The row of an instruction that goes on the same whatever ACC is.
-fn straight(of_acc: i8, of_bak: i8, plus: i16, saves: bool, next: u8) -> Row
+fn straight(of_acc: i16, of_bak: i16, plus: i16, saves: bool, next: u8) -> Row
     ensures { result ≡ rows.straight of_acc of_bak plus saves next }
 {
     Row {

@@ -23,4 +23,4 @@ pub invariant_of-self-2 : goal.invariant_of-self-2
 invariant_of-self-2 c =
     let seen : length (map node_view c.self.inside.nodes) ≡ length c.args.self.now.state.nodes = ap (λ (h : HeldState). length h.state.nodes) c.self.view_is in
     let within : c.args.tile.number < length (map node_view c.self.inside.nodes) = omega (arith, seen, c.requires.within) in
-    c.put.ensures ∙ still_kept c.self.inside.nodes c.advance_at-intent.new.nodes c.self.inside.writing c.args.tile.number _ within c.self.invariant c.advance_at-intent.ensures.alone c.index-self-index.result true (sym c.if-not-writes.false ∙ c.writes.ensures)
+    c.add.ensures ∙ still_kept c.self.inside.nodes c.advance_at-intent.new.nodes c.self.inside.writing c.args.tile.number _ within c.self.invariant c.advance_at-intent.ensures.alone c.index-self-index.result true (sym c.if-not-writes.false ∙ c.writes.ensures)
