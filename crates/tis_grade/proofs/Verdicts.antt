@@ -1,14 +1,14 @@
 -- Verdicts, cycle by cycle.
-use Rattle.std.proofs.Common.{◌≡◌, ℕ, zero, suc, ◌+◌, ◌<◌, ℤ, ◌++◌, true, false, List, [], ◌∷◌, get_or, Option, Some, None, refl, sym, ap, subst, ◌∙◌, arith}
+use Rattle.std.proofs.Common.{◌≡◌, ℕ, zero, suc, ◌+◌, ◌<◌, ℤ, ◌++◌, true, false, List, [], ◌∷◌, map, get_or, cond, unwrap_or, Option, Some, None, refl, sym, ap, subst, ◌∙◌, arith}
 use Rattle.std.specs.Prelude.{Bool, All}
 use Rattle.std.specs.List.{list_all}
 use Rattle.std.specs.Option.{option_or}
 use Rattle.std.proofs.lemmas.Option.{none-some}
 use Rattle.tis_grid.specs.declared.event.Event.{Event}
-use Rattle.tis_grid.specs.State.{Grid, IsGrid, State, outs}
+use Rattle.tis_grid.specs.State.{Grid, IsGrid, State, outs, empty_output, start}
 use Rattle.tis_grid.specs.Orders.{Fits, IsAtRest}
 use Rattle.tis_grid.specs.Choices.{enabled_events}
-use Rattle.tis_grid.specs.Puzzle.{Output}
+use Rattle.tis_grid.specs.Puzzle.{Output, Puzzle, has_output}
 use Rattle.tis_grid.proofs.Grids.{outputs_pass_all}
 use Rattle.tis_grid.proofs.Listed.{rest_lists_none}
 use Rattle.tis_clock.specs.Cycle.{cycle_events, after_cycle}
@@ -16,8 +16,8 @@ use Rattle.tis_clock.proofs.Legal.{cycles_are_legal}
 use Rattle.tis_grade.specs.declared.verdict.Verdict.{Verdict}
 use Rattle.tis_grade.specs.declared.verdict.Verdict.TheVariants.{Late}
 use Rattle.tis_grade.specs.declared.follow.Follow.{Follow}
-use Rattle.tis_grade.specs.Verdict.{is_none, is_done, are_done, decided, or_later, verdict_from}
-use Rattle.tis_grade.specs.Following.{IsFollowedIn, AreFollowed, AreBehind}
+use Rattle.tis_grade.specs.Verdict.{output_at, is_none, is_done, are_done, decided, or_later, verdict_from}
+use Rattle.tis_grade.specs.Following.{IsFollowed, HoldsAt, IsFollowedIn, AreFollowed, AreBehind}
 use Rattle.tis_grade.proofs.Following.{behind_at_more, each_followed}
 
 -- ---- what a state decides
@@ -76,3 +76,27 @@ pub cycle_leaves_behind : (grid : Grid) (state : State) (follows : List (Option 
 cycle_leaves_behind grid state follows is_grid fits followed position below =
     let (more, is) = outputs_grow grid state is_grid fits position below in
     behind_at_more _ (outs state position) more (outs (after_cycle grid state) position) (get_or follows position None) is (followed position below)
+
+-- ---- the start
+
+nothing_out : (test : Bool) → unwrap_or {T = List ℤ} (cond test (Some []) None) [] ≡ []
+nothing_out true = refl
+nothing_out false = refl
+
+none_yet : (puzzle : Puzzle) (positions : List ℕ) (at : ℕ) → unwrap_or (get_or (map (λ (p : ℕ). empty_output puzzle p) positions) at None) [] ≡ []
+none_yet puzzle [] at = refl
+none_yet puzzle (p ∷ positions) zero = nothing_out (has_output puzzle.outputs p)
+none_yet puzzle (p ∷ positions) (suc at) = none_yet puzzle positions at
+
+-- no output has a value at the start
+nothing_at : (grid : Grid) (state : State) (position : ℕ) → state ≡ start grid → outs state position ≡ []
+nothing_at grid state position is = ap (λ (s : State). outs s position) is ∙ none_yet grid.puzzle _ position
+
+-- so what is kept of each output before any event is behind none
+pub start_behind : (grid : Grid) (state : State) (outputs : List Output) (a b c d : Option Follow) → state ≡ start grid → HoldsAt IsFollowed (output_at outputs 0) [] a → HoldsAt IsFollowed (output_at outputs 1) [] b → HoldsAt IsFollowed (output_at outputs 2) [] c → HoldsAt IsFollowed (output_at outputs 3) [] d →
+    AreBehind outputs state (a ∷ b ∷ c ∷ d ∷ [])
+start_behind grid state outputs a b c d is of_a of_b of_c of_d zero below = behind_at_more (output_at outputs 0) [] [] (outs state 0) a (nothing_at grid state 0 is) of_a
+start_behind grid state outputs a b c d is of_a of_b of_c of_d (suc zero) below = behind_at_more (output_at outputs 1) [] [] (outs state 1) b (nothing_at grid state 1 is) of_b
+start_behind grid state outputs a b c d is of_a of_b of_c of_d (suc (suc zero)) below = behind_at_more (output_at outputs 2) [] [] (outs state 2) c (nothing_at grid state 2 is) of_c
+start_behind grid state outputs a b c d is of_a of_b of_c of_d (suc (suc (suc zero))) below = behind_at_more (output_at outputs 3) [] [] (outs state 3) d (nothing_at grid state 3 is) of_d
+start_behind grid state outputs a b c d is of_a of_b of_c of_d (suc (suc (suc (suc more)))) below = absurd (omega (arith, below))
