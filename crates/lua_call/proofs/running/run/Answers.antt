@@ -1,4 +1,4 @@
-use Rattle.std.proofs.Common.{Ok, Err}
+use Rattle.std.proofs.Common.{Ok}
 use Rattle.lua_machine.specs.Machine.{Next}
 use Rattle.lua_machine.specs.Tree.{items_of}
 use Rattle.lua_frames.specs.Machines.{machine_of}

@@ -1,4 +1,4 @@
-use Rattle.std.proofs.Common.{◌≡◌, ◌∙◌, refl, sym}
+use Rattle.std.proofs.Common.{◌≡◌, refl, sym}
 use Rattle.lua_machine.specs.Machine.{Next}
 use Rattle.lua_machine.specs.Tree.{items_of}
 use Rattle.lua_machine.specs.Turn.{turn}
