@@ -8,7 +8,7 @@ ghost use Rattle.lua_call.specs.Calls.{Fails};
 
 use crate::laws::defined_is_found;
 use crate::running::run_call;
-use lua_frames::find_function;
+use lua_frames::FunctionTable;
 use lua_machine::LuaError;
 use lua_machine::laws::turns_yield;
 use lua_plain::Plain;
@@ -33,9 +33,9 @@ pub fn call(alloc: Global, chunk: &Chunk, name: &[u8], seed: u64) -> Result<Call
 {
     turns_yield();
     defined_is_found();
-    let items = chunk.items();
-    match find_function(items, name) {
-        Some(main) => run_call(alloc, items, main, seed),
+    let functions = FunctionTable::new(alloc, chunk.items())?;
+    match functions.find(name) {
+        Some(main) => run_call(alloc, &functions, main, seed),
         None => unreachable!(),
     }
 }

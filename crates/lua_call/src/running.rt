@@ -10,28 +10,27 @@ ghost use Rattle.lua_frames.specs.Ways.{way_in};
 ghost use Rattle.lua_call.specs.Running.{Came, CameToTheEnd, Ends, Gives, PaysOn, TurnsGive};
 
 use crate::calling::Called;
-use lua_frames::{Control, Function, Machine, Step, Way, take_back};
+use lua_frames::{Control, Function, FunctionTable, Machine, Step, Way, take_back};
 use lua_machine::LuaError;
 use lua_machine::laws::turns_yield;
-use lua_tree::Item;
 use std::alloc::Global;
 
 // Turns up to the first that pays a unit, or up to the end.
 fn run_until_paid<'a>(
     machine: &mut Machine<'a>,
     alloc: Global,
-    items: &'a [Item],
+    functions: &FunctionTable<'a>,
     main: Function<'a>,
     start: Control<'a>,
 ) -> Result<Step<'a>, LuaError>
-    ensures came { Came (items_of items.now) (function_in main.entry) (Next (machine_of start.entry machine.old)) result machine.new }
+    ensures came { Came (items_of functions.now) (function_in main.entry) (Next (machine_of start.entry machine.old)) result machine.new }
     ensures pays { PaysOn result machine.old.units machine.new.units }
 {
     turns_yield();
     let before = machine.units.spent();
     let mut control = start;
     'unpaid: loop {
-        match machine.turn(alloc, items, main, control) {
+        match machine.turn(alloc, functions, main, control) {
             Ok(Step::Next(next)) => {
                 if machine.units.spent() > before {
                     return Ok(Step::Next(next));
@@ -48,15 +47,15 @@ fn run_until_paid<'a>(
 fn run<'a>(
     machine: &mut Machine<'a>,
     alloc: Global,
-    items: &'a [Item],
+    functions: &FunctionTable<'a>,
     main: Function<'a>,
     start: Control<'a>,
 ) -> Result<Way, LuaError>
-    ensures { CameToTheEnd (items_of items.now) (function_in main.entry) (Next (machine_of start.entry machine.old)) result machine.new }
+    ensures { CameToTheEnd (items_of functions.now) (function_in main.entry) (Next (machine_of start.entry machine.old)) result machine.new }
 {
     let mut control = start;
     'turns: loop {
-        match run_until_paid(machine, alloc, items, main, control) {
+        match run_until_paid(machine, alloc, functions, main, control) {
             Ok(Step::Next(next)) => control = next,
             Ok(Step::Ended(way)) => return Ok(way),
             Err(why) => return Err(why),
@@ -98,13 +97,13 @@ fn give_or_halt(
 fn run_items<'a>(
     machine: &mut Machine<'a>,
     alloc: Global,
-    items: &'a [Item],
+    functions: &FunctionTable<'a>,
     main: Function<'a>,
 ) -> Result<Way, LuaError>
-    ensures { CameToTheEnd (items_of items.now) (function_in main.entry) (assigning (function_in main.entry) (items_of items.now) (state_in machine.old) machine.old.units) result machine.new }
+    ensures { CameToTheEnd (items_of functions.now) (function_in main.entry) (assigning (function_in main.entry) (items_of functions.now) (state_in machine.old) machine.old.units) result machine.new }
 {
-    match machine.assign_items(alloc, main, items) {
-        Ok(start) => run(machine, alloc, items, main, start),
+    match machine.assign_items(alloc, main, functions.items()) {
+        Ok(start) => run(machine, alloc, functions, main, start),
         Err(why) => Err(why),
     }
 }
@@ -113,26 +112,26 @@ fn run_items<'a>(
 fn run_machine<'a>(
     mut machine: Machine<'a>,
     alloc: Global,
-    items: &'a [Item],
+    functions: &FunctionTable<'a>,
     main: Function<'a>,
 ) -> Result<Called, LuaError>
-    ensures { TurnsGive (items_of items.now) (function_in main.entry) (assigning (function_in main.entry) (items_of items.now) (state_in machine.entry) machine.entry.units) result }
+    ensures { TurnsGive (items_of functions.now) (function_in main.entry) (assigning (function_in main.entry) (items_of functions.now) (state_in machine.entry) machine.entry.units) result }
 {
-    let way = run_items(&mut machine, alloc, items, main);
+    let way = run_items(&mut machine, alloc, functions, main);
     give_or_halt(&mut machine, alloc, way)
 }
 
 /// Calls a function of a chunk, by turns of the machine.
 pub(crate) fn run_call<'a>(
     alloc: Global,
-    items: &'a [Item],
+    functions: &FunctionTable<'a>,
     main: Function<'a>,
     seed: u64,
 ) -> Result<Called, LuaError>
-    ensures { TurnsGive (items_of items.now) (function_in main.entry) (begins (items_of items.now) (function_in main.entry) seed) result }
+    ensures { TurnsGive (items_of functions.now) (function_in main.entry) (begins (items_of functions.now) (function_in main.entry) seed) result }
 {
     match Machine::new(alloc, seed) {
-        Ok(machine) => run_machine(machine, alloc, items, main),
+        Ok(machine) => run_machine(machine, alloc, functions, main),
         Err(_) => Err(LuaError::NoMemory),
     }
 }

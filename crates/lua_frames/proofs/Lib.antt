@@ -1,4 +1,4 @@
-pub mod Finding
+pub mod Gathering
 pub mod Several
 pub mod Numerals
 pub mod Backs

@@ -1,5 +1,5 @@
 -- A value behind those of the parts before it.
-use Rattle.std.proofs.Common.{◌≡◌, ◌∙◌, ℕ, suc, ◌+◌, List, [], ◌∷◌, ◌++◌, take, drop, reverse, refl, ap, add-one}
+use Rattle.std.proofs.Common.{◌≡◌, ◌∙◌, ℕ, ◌+◌, [], ◌∷◌, ◌++◌, take, reverse, ap, add-one}
 use Rattle.std.proofs.lemmas.Grind.{reverse_onto}
 use Rattle.lua_machine.specs.Value.{LuaValue}
 use Rattle.lua_state.specs.Store.{Store, parts, without, pushed}

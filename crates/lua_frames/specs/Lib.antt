@@ -2,6 +2,7 @@ pub mod Ways
 pub mod Quotients
 pub mod Units
 pub mod Parts
+pub mod FunctionTables
 pub mod Frames
 pub mod Machines
 pub mod Turns

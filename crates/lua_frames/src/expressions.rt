@@ -18,14 +18,14 @@ ghost use Rattle.lua_frames.specs.Turns.{Turns};
 
 use crate::control::Control;
 use crate::frame::{Frame, Making, push_frame};
-use crate::functions::find_function;
+use crate::function_table::FunctionTable;
 use crate::machine::Machine;
 use crate::parts::Parts;
 use crate::quotient::floored;
 use lua_machine::LuaError;
 use lua_numbers::LuaNumber;
 use lua_operations::{MathFunction, math_function, table_function};
-use lua_tree::{BinaryOp, Entry, Expr, Item};
+use lua_tree::{BinaryOp, Entry, Expr};
 use std::alloc::Global;
 use tis_base::NoMemory;
 
@@ -102,16 +102,16 @@ impl<'a> Machine<'a> {
     fn call(
         &mut self,
         alloc: Global,
-        items: &'a [Item],
+        functions: &FunctionTable<'a>,
         name: &[u8],
         args: &'a [Expr],
         line: usize,
         cost: u64,
     ) -> Result<Control<'a>, LuaError>
         requires { self.old.units ≡ cost + 1 }
-        ensures { Turns result self.new (call_begun (function_of (items_of items.now) name.now) (nodes (map node_of args.now)) line (waiting self.old) self.old.calls (state_in self.old) cost) }
+        ensures { Turns result self.new (call_begun (function_of (items_of functions.now) name.now) (nodes (map node_of args.now)) line (waiting self.old) self.old.calls (state_in self.old) cost) }
     {
-        match find_function(items, name) {
+        match functions.find(name) {
             Some(function) => self.begin_call(alloc, function, args, line),
             None => Err(LuaError::UnknownName { line }),
         }
@@ -203,12 +203,12 @@ impl<'a> Machine<'a> {
     fn begin_parts(
         &mut self,
         alloc: Global,
-        items: &'a [Item],
+        functions: &FunctionTable<'a>,
         expr: &'a Expr,
         cost: u64,
     ) -> Result<Control<'a>, LuaError>
         requires { self.old.units ≡ cost + 1 }
-        ensures { Turns result self.new (expression_begun (items_of items.now) (node_of expr.now) (waiting self.old) self.old.calls (state_in self.old) cost) }
+        ensures { Turns result self.new (expression_begun (items_of functions.now) (node_of expr.now) (waiting self.old) self.old.calls (state_in self.old) cost) }
     {
         match expr {
             Expr::Nil => self.nil(),
@@ -226,7 +226,7 @@ impl<'a> Machine<'a> {
                 Parts::Done,
             ),
             Expr::Call { name, args, line } => {
-                self.call(alloc, items, name.bytes(), args.as_slice(), *line, cost)
+                self.call(alloc, functions, name.bytes(), args.as_slice(), *line, cost)
             }
             Expr::MathCall { name, args, line } => {
                 self.math_call(name.bytes(), args.as_slice(), *line, cost)
@@ -251,13 +251,13 @@ impl<'a> Machine<'a> {
     pub fn evaluate(
         &mut self,
         alloc: Global,
-        items: &'a [Item],
+        functions: &FunctionTable<'a>,
         expr: &'a Expr,
     ) -> Result<Control<'a>, LuaError>
-        ensures { Turns result self.new (expression_begun (items_of items.now) (node_of expr.now) (waiting self.old) self.old.calls (state_in self.old) self.old.units) }
+        ensures { Turns result self.new (expression_begun (items_of functions.now) (node_of expr.now) (waiting self.old) self.old.calls (state_in self.old) self.old.units) }
     {
         let cost = self.units.spent();
         self.units.pay()?;
-        self.begin_parts(alloc, items, expr, cost)
+        self.begin_parts(alloc, functions, expr, cost)
     }
 }

@@ -7,9 +7,10 @@
 //! the budget is spent, and then the turn has paid more than 500,000 units.
 //!
 //! ```text
+//! let functions = FunctionTable::new(alloc, items)?;
 //! let mut machine = Machine::new(alloc, seed)?;
 //! let mut control = machine.assign_items(alloc, main, items)?;
-//! while let Step::Next(next) = machine.turn(alloc, items, main, control)? {
+//! while let Step::Next(next) = machine.turn(alloc, &functions, main, control)? {
 //!     control = next;
 //! }
 //! ```
@@ -21,8 +22,9 @@
 //! the definition has it, which is never so in turns from the start.
 //!
 //! A [`Frame`] is copied: it holds references into the tree and counts, and the values of its parts, the locals of a caller and
-//! the bounds of a loop wait beside it in the state. A turn takes memory for a frame or two at most, and for what `lua_state` takes;
-//! a function is looked up by a walk over the items of the chunk. Nothing here takes more than one turn.
+//! the bounds of a loop wait beside it in the state. A turn takes memory for a frame or two at most, and for what `lua_state` takes.
+//! A [`FunctionTable`] has the functions of the chunk by the hashes of their names: it is made once, with an entry for each name, and a call then
+//! takes one look-up, however many functions there are. Nothing here takes more than one turn.
 #![tactic(auto)]
 
 mod beginning;
@@ -31,6 +33,7 @@ mod control;
 mod entries;
 mod expressions;
 mod frame;
+mod function_table;
 mod functions;
 mod items;
 mod looping;
@@ -47,7 +50,8 @@ mod ways;
 
 pub use control::Control;
 pub use frame::{Frame, Making};
-pub use functions::{Function, find_function};
+pub use function_table::FunctionTable;
+pub use functions::Function;
 pub use items::Assignment;
 pub use machine::Machine;
 pub use parts::Parts;

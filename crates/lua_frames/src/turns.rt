@@ -14,11 +14,12 @@ ghost use Rattle.lua_frames.specs.Ways.{beside_way, way_in};
 
 use crate::control::Control;
 use crate::frame::{Frame, push_frame};
+use crate::function_table::FunctionTable;
 use crate::functions::Function;
 use crate::machine::Machine;
 use crate::ways::Way;
 use lua_machine::LuaError;
-use lua_tree::{Expr, Item};
+use lua_tree::Expr;
 use std::alloc::Global;
 
 /// What comes after a turn: where the machine is, or the way in which all of it ended.
@@ -110,14 +111,14 @@ impl<'a> Machine<'a> {
     pub fn turn(
         &mut self,
         alloc: Global,
-        items: &'a [Item],
+        functions: &FunctionTable<'a>,
         main: Function<'a>,
         control: Control<'a>,
     ) -> Result<Step<'a>, LuaError>
-        ensures { Steps result self.new (turn (items_of items.now) (function_in main.entry) (machine_of control.entry self.old)) }
+        ensures { Steps result self.new (turn (items_of functions.now) (function_in main.entry) (machine_of control.entry self.old)) }
     {
         match control {
-            Control::Evaluate(expr) => next(self.evaluate(alloc, items, expr)),
+            Control::Evaluate(expr) => next(self.evaluate(alloc, functions, expr)),
             Control::Execute(statement) => next(self.execute(alloc, statement)),
             Control::Assign(name, value) => next(self.assign(name, value)),
             Control::Goes => self.back(alloc, main, Way::Goes),

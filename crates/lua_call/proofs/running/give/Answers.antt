@@ -1,5 +1,4 @@
-use Rattle.std.proofs.Common.{◌≡◌, ◌-◌, ◌≤◌, Ok, subst}
-use Rattle.lua_machine.specs.Answer.{most_units}
+use Rattle.std.proofs.Common.{◌≡◌, ◌-◌, Ok, subst}
 use Rattle.lua_machine.specs.Machine.{Ended}
 use Rattle.lua_machine.specs.Turn.{finished_by}
 use Rattle.lua_plain.specs.Plain.{plain_view}

@@ -7,7 +7,7 @@ use Rattle.lua_call.specs.Running.{Leads}
 use Rattle.lua_call.proofs.running.run.Given as goal
 
 abbrev pub invariant-turns : goal.invariant-turns
-invariant-turns l = Leads (items_of l.items) (function_in l.main) (Next (machine_of l.fn.start l.initial.machine)) (Next (machine_of l.control l.machine))
+invariant-turns l = Leads (items_of l.functions) (function_in l.main) (Next (machine_of l.fn.start l.initial.machine)) (Next (machine_of l.control l.machine))
 
 abbrev pub decreases-turns : goal.decreases-turns
 decreases-turns l = 500000 - l.machine.units

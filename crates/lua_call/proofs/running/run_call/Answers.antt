@@ -6,5 +6,5 @@ use Rattle.lua_call.proofs.running.run_call.Goals as goal
 
 pub returns-in-Err : goal.returns-in-Err
 returns-in-Err c =
-    let from = begins (items_of c.args.items.now) (function_in c.args.main) c.args.seed in
-    record { wanted = from; leads = leads_nowhere (items_of c.args.items.now) (function_in c.args.main) from; gives = tt }
+    let from = begins (items_of c.args.functions.now) (function_in c.args.main) c.args.seed in
+    record { wanted = from; leads = leads_nowhere (items_of c.args.functions.now) (function_in c.args.main) from; gives = tt }

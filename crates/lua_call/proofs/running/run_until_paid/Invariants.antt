@@ -9,7 +9,7 @@ use Rattle.lua_call.proofs.running.run_until_paid.Given as goal
 
 abbrev pub invariant-unpaid : goal.invariant-unpaid
 invariant-unpaid l = record {
-  leads : Leads (items_of l.items) (function_in l.main) (Next (machine_of l.fn.start l.initial.machine)) (Next (machine_of l.control l.machine));
+  leads : Leads (items_of l.functions) (function_in l.main) (Next (machine_of l.fn.start l.initial.machine)) (Next (machine_of l.control l.machine));
   unpaid : l.machine.units ≡ l.before;
 }
 

@@ -1,5 +1,4 @@
 use Rattle.std.proofs.Common.{◌≡◌, ◌∙◌, List, [], ◌∷◌, ◌++◌, reverse, ap, subst, Option}
-use Rattle.lua_machine.specs.Machine as machine
 use Rattle.lua_machine.specs.Machine.{Turned, Next, Execute}
 use Rattle.lua_machine.specs.Tree as t
 use Rattle.lua_machine.specs.Tree.{node_of, items_of}
