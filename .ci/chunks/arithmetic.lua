@@ -32,19 +32,5 @@ function get_streams()
   table.insert(order, math.abs(-4) + math.abs(4))
   table.insert(order, math.min(-1, 1))
   table.insert(order, math.max(-1, 1))
-  return {
-    { STREAM_INPUT, "A", 0, sums }, { STREAM_OUTPUT, "A", 0, sums },
-    { STREAM_INPUT, "B", 1, quotients }, { STREAM_OUTPUT, "B", 1, quotients },
-    { STREAM_INPUT, "C", 2, rests }, { STREAM_OUTPUT, "C", 2, rests },
-    { STREAM_INPUT, "D", 3, order }, { STREAM_OUTPUT, "D", 3, order },
-  }
-end
-
-function get_name() return "" end
-function get_description() return {} end
-
-function get_layout()
-  local tiles = {}
-  for i = 1, 12 do tiles[i] = TILE_COMPUTE end
-  return tiles
+  return passing(sums, quotients, rests, order)
 end

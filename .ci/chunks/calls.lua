@@ -113,23 +113,5 @@ function orders()
 end
 
 function get_streams()
-  local a = called()
-  local b = decided()
-  local c = texts()
-  local d = orders()
-  return {
-    { STREAM_INPUT, "A", 0, a }, { STREAM_OUTPUT, "A", 0, a },
-    { STREAM_INPUT, "B", 1, b }, { STREAM_OUTPUT, "B", 1, b },
-    { STREAM_INPUT, "C", 2, c }, { STREAM_OUTPUT, "C", 2, c },
-    { STREAM_INPUT, "D", 3, d }, { STREAM_OUTPUT, "D", 3, d },
-  }
-end
-
-function get_name() return "" end
-function get_description() return {} end
-
-function get_layout()
-  local tiles = {}
-  for i = 1, 12 do tiles[i] = TILE_COMPUTE end
-  return tiles
+  return passing(called(), decided(), texts(), orders())
 end

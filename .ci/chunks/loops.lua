@@ -98,19 +98,5 @@ function get_streams()
   local c = left()
   local d = scopes()
   table.insert(d, x)
-  return {
-    { STREAM_INPUT, "A", 0, a }, { STREAM_OUTPUT, "A", 0, a },
-    { STREAM_INPUT, "B", 1, b }, { STREAM_OUTPUT, "B", 1, b },
-    { STREAM_INPUT, "C", 2, c }, { STREAM_OUTPUT, "C", 2, c },
-    { STREAM_INPUT, "D", 3, d }, { STREAM_OUTPUT, "D", 3, d },
-  }
-end
-
-function get_name() return "" end
-function get_description() return {} end
-
-function get_layout()
-  local tiles = {}
-  for i = 1, 12 do tiles[i] = TILE_COMPUTE end
-  return tiles
+  return passing(a, b, c, d)
 end

@@ -71,23 +71,5 @@ function sorted()
 end
 
 function get_streams()
-  local a = lengths()
-  local b = keys()
-  local c = taken()
-  local d = sorted()
-  return {
-    { STREAM_INPUT, "A", 0, a }, { STREAM_OUTPUT, "A", 0, a },
-    { STREAM_INPUT, "B", 1, b }, { STREAM_OUTPUT, "B", 1, b },
-    { STREAM_INPUT, "C", 2, c }, { STREAM_OUTPUT, "C", 2, c },
-    { STREAM_INPUT, "D", 3, d }, { STREAM_OUTPUT, "D", 3, d },
-  }
-end
-
-function get_name() return "" end
-function get_description() return {} end
-
-function get_layout()
-  local tiles = {}
-  for i = 1, 12 do tiles[i] = TILE_COMPUTE end
-  return tiles
+  return passing(lengths(), keys(), taken(), sorted())
 end
