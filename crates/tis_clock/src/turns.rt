@@ -1,5 +1,5 @@
 //! What a tile does at its turn in a cycle.
-ghost use Rattle.std.specs.Prelude.{◌≡◌, ◌<◌, ◌∷◌, [], length, flat_map, IsTrue, Some, None, false, ◌&&◌};
+ghost use Rattle.std.specs.Prelude.{◌≡◌, ◌<◌, ◌∷◌, [], length, flat_map, IsTrue, Some, None, false, true, ◌&&◌};
 ghost use Rattle.tis_base.specs.declared.tiles.Dir.{Dir as AnyDir};
 ghost use Rattle.tis_base.specs.declared.tiles.Dir.TheVariants.{Down};
 ghost use Rattle.std.specs.List.{find};
@@ -222,11 +222,12 @@ pub(crate) fn read_or_step(
     read(grid, writing, state, tile, intent)
 }
 
-// The output whose column ends in this tile takes its value.
+// The output whose column ends in this tile takes what it gives downwards.
 #[inline(always)]
 fn give_below(grid: &Grid, state: &State, tile: Tile) -> Option<Event>
     requires fits { Fits grid.now state.now.state }
     requires there { tile.number < length grid.now.puzzle.tiles.kinds }
+    requires gives { is_giving grid.now state.now.state tile.number Down ≡ true }
     ensures { result ≡ find (is_enabled grid.now state.now.state) (cycle.to_below grid.now tile.number Down) }
 {
     // The call tells the proof which shape the tiles have.
@@ -235,23 +236,23 @@ fn give_below(grid: &Grid, state: &State, tile: Tile) -> Option<Event>
         return None;
     }
     let position = tile.number - BOTTOM;
-    if grid.enabled(state, Event::Out(position)) {
+    if grid.goes_out(state, position) {
         Some(Event::Out(position))
     } else {
         None
     }
 }
 
-// What a tile gives in a direction without a reader.
+// What a tile gives in a direction without a reader, where it gives its value there.
 #[inline(always)]
 fn give_toward(grid: &Grid, state: &State, tile: Tile, dir: Dir) -> Option<Event>
     requires fits { Fits grid.now state.now.state }
     requires there { tile.number < length grid.now.puzzle.tiles.kinds }
+    requires gives { is_giving grid.now state.now.state tile.number dir ≡ true }
     ensures { result ≡ find (is_enabled grid.now state.now.state) (cycle.ways_to_give grid.now tile.number dir) }
 {
-    let pushed = Event::Push(tile, dir);
-    if grid.enabled(state, pushed) {
-        return Some(pushed);
+    if grid.goes_onto_stack(state, tile, dir) {
+        return Some(Event::Push(tile, dir));
     }
     match dir {
         Dir::Down => give_below(grid, state, tile),
@@ -259,10 +260,11 @@ fn give_toward(grid: &Grid, state: &State, tile: Tile, dir: Dir) -> Option<Event
     }
 }
 
-// What a tile gives in the first of these directions in which it gives anything.
+// What a tile gives in the first of these directions in which it gives anything, where it gives its value to any port.
 fn give_any(grid: &Grid, state: &State, tile: Tile, dirs: &[Dir]) -> Option<Event>
     requires fits { Fits grid.now state.now.state }
     requires there { tile.number < length grid.now.puzzle.tiles.kinds }
+    requires gives { (dir : AnyDir) → is_giving grid.now state.now.state tile.number dir ≡ true }
     ensures { result ≡ find (is_enabled grid.now state.now.state) (flat_map (cycle.ways_to_give grid.now tile.number) dirs.now) }
 {
     match dirs.split_first() {
@@ -279,11 +281,9 @@ fn give_any(grid: &Grid, state: &State, tile: Tile, dirs: &[Dir]) -> Option<Even
 pub(crate) fn give_out(grid: &Grid, writing: &TileSet, state: &State, tile: Tile) -> Option<Event>
     requires fits { Fits grid.now state.now.state }
     requires there { tile.number < length grid.now.puzzle.tiles.kinds }
+    requires wrote { kept_at writing.now tile.number ≡ true }
     ensures { result ≡ cycle.gives_out grid.now (kept_at writing.now) state.now.state tile.number }
 {
-    if !was_writing(grid, writing, tile) {
-        return None;
-    }
     // The call tells the proof that this is a grid.
     grid.puzzle();
     match grid.intent(state, tile) {

@@ -1,5 +1,5 @@
 //! Whether each event can happen next.
-ghost use Rattle.std.specs.Prelude.{◌≡◌, ◌≢◌, ◌<◌, ◌≤◌, IsTrue, IfSome, length, option_map};
+ghost use Rattle.std.specs.Prelude.{◌≡◌, ◌≢◌, ◌<◌, ◌≤◌, IsTrue, IfSome, length, true, option_map, unwrap_or};
 ghost use Rattle.tis_base.specs.Tiles.{neighbour_of};
 ghost use Rattle.tis_base.specs.declared.tiles.Dir.{Dir as AnyDir};
 ghost use Rattle.tis_node.specs.Intents.{is_local, takes_from, gives_to};
@@ -13,6 +13,7 @@ ghost use Rattle.tis_grid.specs.Events as event;
 ghost use Rattle.tis_grid.specs.Orders.{Fits};
 ghost use Rattle.tis_base.specs.declared.tiles.Dir.TheVariants as dirs;
 
+use crate::givers::spot;
 use crate::grid::Grid;
 use crate::state::State;
 use tis_asm::Program;
@@ -24,21 +25,34 @@ const WIDTH: u8 = 4;
 
 const COUNT: u8 = 12;
 
+// The number of the tile that is next in a direction, on four columns and three rows, and 12 where there is none: four for each tile, in
+// the order left, right, up, down. So it is found without a branch.
+const NEXT: [u8; 48] = [
+    12, 1, 12, 4, 0, 2, 12, 5, 1, 3, 12, 6, 2, 12, 12, 7, 12, 5, 0, 8, 4, 6, 1, 9, 5, 7, 2, 10, 6,
+    12, 3, 11, 12, 9, 4, 12, 8, 10, 5, 12, 9, 11, 6, 12, 10, 12, 7, 12,
+];
+
+// What stands there.
+#[inline(always)]
+fn entry(tile: Tile, dir: Dir) -> u8
+    requires { tile.number < 12 }
+    ensures { result ≡ unwrap_or (neighbour_of (record { columns = 4; rows = 3 }) tile.number dir) 12 }
+{
+    NEXT[spot(tile, dir) as usize]
+}
+
 // The tile that is next in a direction, on four columns and three rows.
 #[inline(always)]
 fn beside(tile: Tile, dir: Dir) -> Option<Tile>
     requires { tile.number < 12 }
     ensures { option_map (λ t. t.number) result ≡ neighbour_of (record { columns = 4; rows = 3 }) tile.number dir }
 {
-    let number = tile.number;
-    let next = match dir {
-        Dir::Left if 0 < number % WIDTH => number - 1,
-        Dir::Right if number % WIDTH + 1 < WIDTH => number + 1,
-        Dir::Up if WIDTH <= number => number - WIDTH,
-        Dir::Down if number + WIDTH < COUNT => number + WIDTH,
-        _ => return None,
-    };
-    Some(Tile { number: next })
+    let number = entry(tile, dir);
+    if number < COUNT {
+        Some(Tile { number })
+    } else {
+        None
+    }
 }
 
 impl Grid {
@@ -260,6 +274,19 @@ impl Grid {
         self.is_giving(state, self.bottom(position), Dir::Down)
     }
 
+    /// Whether what a tile at the bottom gives downwards goes to the output of its column.
+    #[inline(always)]
+    pub fn goes_out(&self, state: &State, position: u8) -> bool
+        requires fits { Fits self.now state.now.state }
+        requires gives { event.is_giving self.now state.now.state (event.bottom_of self.now position) dirs.Down ≡ true }
+        ensures { result ≡ event.is_enabled self.now state.now.state (events.Out position) }
+    {
+        if self.puzzle.tiles.shape().columns <= position {
+            return false;
+        }
+        self.output_stands(state, position)
+    }
+
     // Whether a tile gives to a stack that isn't full.
     #[inline(always)]
     pub(crate) fn can_push(&self, state: &State, tile: Tile, dir: Dir) -> bool
@@ -269,6 +296,17 @@ impl Grid {
         if !self.is_giving(state, tile, dir) {
             return false;
         }
+        self.goes_onto_stack(state, tile, dir)
+    }
+
+    /// Whether what a tile gives to a port goes onto a stack, which isn't full.
+    #[inline(always)]
+    pub fn goes_onto_stack(&self, state: &State, tile: Tile, dir: Dir) -> bool
+        requires fits { Fits self.now state.now.state }
+        requires there { tile.number < length self.now.puzzle.tiles.kinds }
+        requires gives { event.is_giving self.now state.now.state tile.number dir ≡ true }
+        ensures { result ≡ event.is_enabled self.now state.now.state (events.Push tile dir) }
+    {
         match self.next(tile, dir) {
             Some(stack) => self.has_room(state, stack),
             None => false,

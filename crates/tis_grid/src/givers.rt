@@ -27,7 +27,7 @@ pub(crate) struct Givers {
 
 // The place of the bit of a tile and a direction.
 #[inline(always)]
-fn spot(tile: Tile, dir: Dir) -> u32
+pub(crate) fn spot(tile: Tile, dir: Dir) -> u32
     requires { tile.number < 12 }
     ensures spot { result ≡ spot_of tile.number dir }
     ensures few { result < 48 }

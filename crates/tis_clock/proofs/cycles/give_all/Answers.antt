@@ -8,7 +8,7 @@ use Rattle.tis_clock.specs.Cycle.{gives_out, state_after}
 use Rattle.tis_clock.specs.Turns.{kept_at}
 use Rattle.tis_clock.proofs.Halves.{Done, none_done}
 use Rattle.tis_clock.proofs.Room.{GivesBelow, IsLeft, all_left, later_left, if_chosen, gives_can, gives_below, room_below, still_left}
-use Rattle.tis_clock.proofs.Visiting.{AreLeft, not_passed, one_less, visited, all_visited, idle_second}
+use Rattle.tis_clock.proofs.Visiting.{AreLeft, not_passed, is_wanted, one_less, visited, all_visited, idle_second}
 use Rattle.tis_clock.proofs.cycles.give_all.Goals as goal
 
 pub loop-tile-init : goal.loop-tile-init
@@ -32,6 +32,9 @@ give_out-chosen-requires-clause-there c =
     let few = c.tiles_of.ensures.few in
     let within = c.in-Some.ensures.first.within in
     omega (arith, tiles, few, within)
+
+pub give_out-chosen-requires-clause-wrote : goal.give_out-chosen-requires-clause-wrote
+give_out-chosen-requires-clause-wrote c = is_wanted (kept_at c.args.writing.now) c.loop-tile.passed c.loop-tile.left c.loop-tile.invariant.left _ c.in-Some.ensures.first
 
 pub act-requires-clause-enabled : goal.act-requires-clause-enabled
 act-requires-clause-enabled c =
