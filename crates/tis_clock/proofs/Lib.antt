@@ -10,4 +10,5 @@ pub mod Halves
 pub mod Room
 pub mod Same
 pub mod Runs
+mod Sleeping
 mod Visiting

@@ -63,7 +63,7 @@ step_at_turn tile turn step =
     ]
 
 -- nothing, or a value given
-abbrev Gives : List Step → Type 0
+abbrev pub Gives : List Step → Type 0
 Gives steps = (dir : Dir) × (value : ℤ) × (steps ≡ Gave dir value ∷ [])
 
 gift_at_turn : (tile turn : ℕ) (dir : Dir) (value : ℤ) → (step_at tile turn (Gave dir value) ≡ []) ⊎ ((tile ≡ turn) × Gives (step_at tile turn (Gave dir value)))
@@ -73,7 +73,7 @@ gift_at_turn tile turn dir value =
       | inr other ↦ inl (ap (λ (b : Bool). cond b (Gave dir value ∷ []) []) (ne_eqb turn tile other))
     ]
 
-abbrev mode_at : State → ℕ → Mode
+abbrev pub mode_at : State → ℕ → Mode
 mode_at state tile = (node_at state tile).mode
 
 ready_or_writing : (mode : Mode) → (is_ready mode ≡ true) ⊎ (is_writing mode ≡ true)
@@ -96,7 +96,7 @@ module _ (grid : Grid) (is_grid : IsGrid grid) (before : State) (tile : ℕ) whe
   -- ---- one event
 
   -- what an event of the first half is for the tile: nothing, its own turn, or a value that it gives
-  abbrev InFirst : ℕ → State → List Step → Type 0
+  abbrev pub InFirst : ℕ → State → List Step → Type 0
   InFirst turn now steps = (steps ≡ []) ⊎ ((tile ≡ turn) × (length steps ≡ 1) × (is_ready (mode_at before tile) ≡ true)) ⊎ (Gives steps × (is_writing (mode_at before tile) ≡ true) × (is_writing (mode_at now tile) ≡ true))
 
   own : (turn : ℕ) (now : State) (steps : List Step) → is_ready (mode_at before turn) ≡ true → AtTurn tile turn steps → InFirst turn now steps
@@ -132,7 +132,7 @@ module _ (grid : Grid) (is_grid : IsGrid grid) (before : State) (tile : ℕ) whe
             ))
       ]
 
-  abbrev size : ℕ
+  abbrev pub size : ℕ
   size = grid.puzzle.tiles.shape.columns * grid.puzzle.tiles.shape.rows
 
   -- what can be done at the turn of a tile that is ready
@@ -167,7 +167,7 @@ module _ (grid : Grid) (is_grid : IsGrid grid) (before : State) (tile : ℕ) whe
         ]
       ]
 
-  abbrev FirstOf : ℕ → State → Event → Type 0
+  abbrev pub FirstOf : ℕ → State → Event → Type 0
   FirstOf turn now event = InFirst turn now (steps_in grid now event tile)
 
   by_way : (turn : ℕ) (now : State) (event : Event) → turn < size → is_ready (mode_at before turn) ≡ true → IsWay turn event → gives_old (writers before) event ≡ true → is_enabled grid now event ≡ true → FirstOf turn now event
@@ -180,7 +180,7 @@ module _ (grid : Grid) (is_grid : IsGrid grid) (before : State) (tile : ℕ) whe
   by_way turn now event within ready (inr (inr (inl popped))) old enabled = subst (FirstOf turn now) popped.1 (own turn now _ ready (step_at_turn tile turn _))
   by_way turn now event within ready (inr (inr (inr same))) old enabled = subst (FirstOf turn now) same (own turn now _ ready (step_at_turn tile turn (Took Up (next_value grid now turn))))
 
-  in_first : (turn : ℕ) (now : State) (event : Event) → turn < size → reads_or_steps grid (writers before) now turn ≡ Some event → FirstOf turn now event
+  pub in_first : (turn : ℕ) (now : State) (event : Event) → turn < size → reads_or_steps grid (writers before) now turn ≡ Some event → FirstOf turn now event
   in_first turn now event within chose =
       let ways : List Event = ways_of_ready grid turn in
       let found : first_way grid (writers before) now ways ≡ Some event = chosen_where (is_ready (mode_at before turn)) (first_way grid (writers before) now ways) event chose in
@@ -189,10 +189,10 @@ module _ (grid : Grid) (is_grid : IsGrid grid) (before : State) (tile : ℕ) whe
       (way_of turn event (find_in (λ e. gives_old (writers before) e && is_enabled grid now e) ways event found)) passes.0 passes.1
 
   -- what an event of the second half is for the tile: nothing, or a value that it gives
-  abbrev InSecond : State → List Step → Type 0
+  abbrev pub InSecond : State → List Step → Type 0
   InSecond now steps = (steps ≡ []) ⊎ (Gives steps × (is_writing (mode_at before tile) ≡ true) × (is_writing (mode_at now tile) ≡ true))
 
-  abbrev SecondOf : State → Event → Type 0
+  abbrev pub SecondOf : State → Event → Type 0
   SecondOf now event = InSecond now (steps_in grid now event tile)
 
   gift : (turn : ℕ) (now : State) (dir : Dir) (value : ℤ) → is_writing (mode_at before turn) ≡ true → is_writing (mode_at now turn) ≡ true → InSecond now (step_at tile turn (Gave dir value))
@@ -214,7 +214,7 @@ module _ (grid : Grid) (is_grid : IsGrid grid) (before : State) (tile : ℕ) whe
   below turn now Left event old is enabled = absurd is
   below turn now Right event old is enabled = absurd is
 
-  in_second : (turn : ℕ) (now : State) (event : Event) → gives_out grid (writers before) now turn ≡ Some event → SecondOf now event
+  pub in_second : (turn : ℕ) (now : State) (event : Event) → gives_out grid (writers before) now turn ≡ Some event → SecondOf now event
   in_second turn now event chose =
       let ways : List Event = flat_map (ways_to_give grid turn) directions in
       let writing = test_of (is_writing (mode_at before turn)) (find (is_enabled grid now) ways) event chose in

@@ -13,10 +13,12 @@ use Rattle.tis_grid.specs.State.{Grid, IsGrid, State, node_at}
 use Rattle.tis_grid.specs.TileSets.{has, IsFirst}
 use Rattle.tis_grid.specs.Events.{program_of, is_compute_at, works, is_enabled, is_waiting, is_giving}
 use Rattle.tis_clock.specs.Cycle.{is_writing, writers, first_way, ways_of_ready, reads_or_steps, gives_out, in_turn, state_after}
+use Rattle.tis_clock.specs.Sleepers.{Sleeps}
 use Rattle.tis_clock.specs.Turns.{acts}
 use Rattle.tis_clock.proofs.Below.{columns_from, next_column, no_column}
 use Rattle.tis_clock.proofs.Halves.{Done, in_turn_next, one_more, whole}
 use Rattle.tis_clock.proofs.Intended.{takes_none, gives_none, gives_nothing}
+use Rattle.tis_clock.proofs.Sleeping.{does_nothing}
 
 -- ---- what is left of a set
 
@@ -39,7 +41,7 @@ module _ (wanted : ℕ → Bool) (passed : ℕ) (left : List Bool) (are : AreLef
     pub none_between : (other : ℕ) → passed ≤ other → other < tile → wanted other ≡ false
     none_between other from before = sym (are.ahead other from) ∙ first.least other before
 
-    within_left : tile < length left
+    pub within_left : tile < length left
     within_left = elim (cases_lt tile (length left)) [ inl below ↦ below | inr past ↦ absurd (not_both (has left tile) first.is_in (get_or_past left tile false past)) ]
 
     pub one_less : AreLeft wanted (tile + 1) (slice_set left tile false)
@@ -146,22 +148,22 @@ none_offered : (mode : Mode) (dir : Dir) → is_writing mode ≡ false → is_so
 none_offered Ready dir fails = refl
 none_offered (Writing value toward) dir fails = absurd cc
 
--- the tiles that read or step: they work, and weren't writing
-abbrev pub turns_first : Grid → (ℕ → Bool) → ℕ → Bool
-turns_first grid was tile = works grid tile && not (was tile)
+-- the tiles that read or step: they work, weren't writing, and aren't asleep
+abbrev pub turns_first : Grid → (ℕ → Bool) → (ℕ → Bool) → ℕ → Bool
+turns_first grid was asleep tile = (works grid tile && not (was tile)) && not (asleep tile)
 
-both_yes : (a b : Bool) → (a && b) ≡ true → (a ≡ true) × (b ≡ true)
+pub both_yes : (a b : Bool) → (a && b) ≡ true → (a ≡ true) × (b ≡ true)
 both_yes true true is = (refl, refl)
 both_yes true false is = absurd cc
 both_yes false b is = absurd cc
 
-not_yes : (b : Bool) → not b ≡ true → b ≡ false
+pub not_yes : (b : Bool) → not b ≡ true → b ≡ false
 not_yes true is = absurd cc
 not_yes false is = refl
 
-pub first_wants : (grid : Grid) (was : ℕ → Bool) (tile : ℕ) → turns_first grid was tile ≡ true → (is_compute_at grid tile ≡ true) × (was tile ≡ false)
-first_wants grid was tile is =
-    let parts = both_yes (works grid tile) (not (was tile)) is in
+pub first_wants : (grid : Grid) (was asleep : ℕ → Bool) (tile : ℕ) → turns_first grid was asleep tile ≡ true → (is_compute_at grid tile ≡ true) × (was tile ≡ false)
+first_wants grid was asleep tile is =
+    let parts = both_yes (works grid tile) (not (was tile)) (both_yes (works grid tile && not (was tile)) (not (asleep tile)) is).0 in
     ((both_yes (is_compute_at grid tile) (nat_lt 0 (length (program_of grid tile))) parts.0).0, not_yes (was tile) parts.1)
 
 module _ (grid : Grid) (is_grid : IsGrid grid) (was : ℕ → Bool) (now : State) (tile : ℕ) (within : tile < length grid.puzzle.tiles.kinds) where
@@ -170,16 +172,23 @@ module _ (grid : Grid) (is_grid : IsGrid grid) (was : ℕ → Bool) (now : State
       sym (takes_none grid is_grid now was tile within ready (cant_step (is_compute_at grid tile) (program_of grid tile) (node_at now tile) fails)
       (λ dir. cant_wait (is_compute_at grid tile) (program_of grid tile) (node_at now tile) dir fails))
 
-  pub idle_first : turns_first grid was tile ≡ false → reads_or_steps grid was now tile ≡ None
-  idle_first fails =
+  and_yes : (a : Bool) → (a && true) ≡ a
+  and_yes true = refl
+  and_yes false = refl
+
+  idle_awake : (works grid tile && not (was tile)) ≡ false → reads_or_steps grid was now tile ≡ None
+  idle_awake fails =
       elim (was tile) as (λ w. was tile ≡ w → (works grid tile && not w) ≡ false → reads_or_steps grid was now tile ≡ None) [
         | true ↦ λ wrote is. ap (λ (b : Bool). cond (not b) (first_way grid was now (ways_of_ready grid tile)) None) wrote
         | false ↦ λ ready is. idle_ready (sym (and_yes (works grid tile)) ∙ is) ready
       ] refl fails
-    where
-      and_yes : (a : Bool) → (a && true) ≡ a
-      and_yes true = refl
-      and_yes false = refl
+
+  pub idle_first : (asleep : ℕ → Bool) → (asleep tile ≡ true → Sleeps grid was now tile) → turns_first grid was asleep tile ≡ false → reads_or_steps grid was now tile ≡ None
+  idle_first asleep sleeps fails =
+      elim (asleep tile) as (λ a. asleep tile ≡ a → ((works grid tile && not (was tile)) && not a) ≡ false → reads_or_steps grid was now tile ≡ None) [
+        | true ↦ λ is no. does_nothing grid was now tile (sleeps is)
+        | false ↦ λ is no. idle_awake (sym (and_yes (works grid tile && not (was tile))) ∙ no)
+      ] refl fails
 
   pub idle_second : was tile ≡ false → gives_out grid was now tile ≡ None
   idle_second ready = sym (gives_nothing grid is_grid now was tile within ready)

@@ -2,3 +2,4 @@ pub mod Cycle
 pub mod Laws
 pub mod Turns
 pub mod Runs
+pub mod Sleepers

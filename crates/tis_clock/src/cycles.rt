@@ -1,10 +1,12 @@
 //! A grid, cycle by cycle.
-ghost use Rattle.std.specs.Prelude.{◌≡◌, ◌≤◌, ◌++◌, [], IsTrue, length, IfOk, IfErr, OnOk};
+ghost use Rattle.std.specs.Prelude.{◌≡◌, ◌≤◌, ◌++◌, [], ℕ, IsTrue, length, IfOk, IfErr, OnOk, true, false};
 ghost use Rattle.tis_grid.specs.Orders.{Fits};
 ghost use Rattle.tis_grid.specs.HeldState.{HasRoomEach};
 ghost use Rattle.tis_clock.specs.Cycle.{reads_or_steps, gives_out, state_after, in_turn, all_tiles, cycle_events, after_cycle};
 ghost use Rattle.tis_clock.specs.Runs.{EndsAs, LowersBy, IsAfterSome};
-ghost use Rattle.tis_clock.specs.Turns.{kept_at, acts, HasRoomForOne};
+ghost use Rattle.tis_clock.specs.Cycle as cycle;
+ghost use Rattle.tis_clock.specs.Sleepers.{AreAsleep};
+ghost use Rattle.tis_clock.specs.Turns.{kept_at, acts, HasRoomForOne, Keeps};
 
 use crate::acting::act;
 use crate::trace::Trace;
@@ -36,16 +38,19 @@ fn number_of(chosen: Option<Event>) -> u32
 }
 
 // What the tiles do that were ready, tile by tile, and how many events there were. They are written into the trace if
-// they are kept.
+// they are kept. Tiles that sleep do nothing, and others fall asleep.
 #[inline(always)]
 fn first_half(
     grid: &Grid,
     writing: &TileSet,
+    asleep: &mut TileSet,
     state: &mut State,
     trace: &mut Trace,
     kept: bool,
 ) -> u32
     requires fits { Fits grid.now state.old.state }
+    requires keeps { Keeps writing.now state.old.state }
+    requires asleep { AreAsleep grid.now (kept_at writing.now) state.old.state asleep.old }
     requires empty { trace.old ≡ [] }
     ensures trace { IsTrue kept → trace.new ≡ in_turn grid.now (reads_or_steps grid.now (kept_at writing.now)) state.old.state (all_tiles grid.now) }
     ensures count { result ≡ length (in_turn grid.now (reads_or_steps grid.now (kept_at writing.now)) state.old.state (all_tiles grid.now)) }
@@ -53,17 +58,19 @@ fn first_half(
     ensures state { state.new.state ≡ state_after grid.now state.old.state (in_turn grid.now (reads_or_steps grid.now (kept_at writing.now)) state.old.state (all_tiles grid.now)) }
     ensures spares { state.new.spares ≡ state.old.spares }
     ensures fits { Fits grid.now state.new.state }
+    ensures asleep { AreAsleep grid.now (kept_at writing.now) state.new.state asleep.new }
 {
     // The calls tell the proof that this is a grid, and how many tiles it has.
     grid.puzzle();
     tiles_of(grid);
     let working = grid.working();
-    let mut left = working.without(writing);
+    let ready = working.without(writing);
+    let mut left = ready.without(asleep);
     // The tiles below this number had their turn.
     let mut passed = 0;
     let mut count = 0;
     while let Some(tile) = left.take_first() {
-        let chosen = read_or_step(grid, writing, state, tile);
+        let chosen = read_or_step(grid, writing, asleep, state, tile);
         trace.add(chosen, kept);
         count += number_of(chosen);
         passed = tile.number + 1;
@@ -132,20 +139,46 @@ fn second_half(
     give_all(grid, writing, state, trace, kept)
 }
 
-// Applies the events of one clock cycle, and gives how many there were. They are written into the trace if they are kept.
+// Wakes all tiles, where any began to write.
 #[inline(always)]
-fn do_cycle(grid: &Grid, state: &mut State, trace: &mut Trace, kept: bool) -> u32
+fn wake(asleep: &mut TileSet, writing: &TileSet, state: &State)
+    requires { length asleep.old ≡ 12 }
+    ensures full { length asleep.new ≡ 12 }
+    ensures none_begins { (tile : ℕ) → kept_at asleep.new tile ≡ true → (kept_at asleep.old tile ≡ true) × ((other : ℕ) → kept_at writing.now other ≡ false → cycle.writers state.now.state other ≡ false) }
+{
+    let now = writers(state);
+    let begun = now.without(writing);
+    if !begun.is_empty() {
+        *asleep = TileSet::empty();
+    }
+}
+
+// Applies the events of one clock cycle, and gives how many there were. They are written into the trace if they are kept.
+// Tiles that sleep are passed over.
+#[inline(always)]
+fn do_cycle(
+    grid: &Grid,
+    asleep: &mut TileSet,
+    state: &mut State,
+    trace: &mut Trace,
+    kept: bool,
+) -> u32
     requires fits { Fits grid.now state.old.state }
+    requires asleep { AreAsleep grid.now (cycle.writers state.old.state) state.old.state asleep.old }
     requires room { HasRoomEach state.old 1 }
     ensures trace { IsTrue kept → trace.new ≡ cycle_events grid.now state.old.state }
     ensures count { result ≡ length (cycle_events grid.now state.old.state) }
     ensures state { state.new.state ≡ after_cycle grid.now state.old.state }
     ensures spares { LowersBy 1 state.old.spares state.new.spares }
     ensures fits { Fits grid.now state.new.state }
+    ensures asleep { AreAsleep grid.now (cycle.writers state.new.state) state.new.state asleep.new }
 {
+    // The call tells the proof that this is a grid.
+    grid.puzzle();
     let writing = writers(state);
     trace.clear();
-    let first = first_half(grid, &writing, state, trace, kept);
+    let first = first_half(grid, &writing, asleep, state, trace, kept);
+    wake(asleep, &writing, state);
     let second = second_half(grid, &writing, state, trace, kept);
     first + second
 }
@@ -162,7 +195,8 @@ pub fn cycle(grid: &Grid, state: &mut State, trace: &mut Trace) -> u32
     ensures spares { LowersBy 1 state.old.spares state.new.spares }
     ensures fits { Fits grid.now state.new.state }
 {
-    do_cycle(grid, state, trace, true)
+    let mut asleep = TileSet::empty();
+    do_cycle(grid, &mut asleep, state, trace, true)
 }
 
 /// The same without a trace: applies the events of one clock cycle, and gives how many there were.
@@ -174,8 +208,9 @@ pub fn count_cycle(grid: &Grid, state: &mut State) -> u32
     ensures spares { LowersBy 1 state.old.spares state.new.spares }
     ensures fits { Fits grid.now state.new.state }
 {
+    let mut asleep = TileSet::empty();
     let mut trace = Trace::new();
-    do_cycle(grid, state, &mut trace, false)
+    do_cycle(grid, &mut asleep, state, &mut trace, false)
 }
 
 /// Runs a grid cycle by cycle until it is at rest, for so many cycles at most, and gives how many were done. It asks
@@ -189,9 +224,10 @@ pub fn run(grid: &Grid, state: &mut State, cycles: u64) -> Ended
 {
     // The call tells the proof that this is a grid.
     grid.puzzle();
+    let mut asleep = TileSet::empty();
     let mut trace = Trace::new();
     for done in 0..cycles {
-        if do_cycle(grid, state, &mut trace, false) == 0 {
+        if do_cycle(grid, &mut asleep, state, &mut trace, false) == 0 {
             return Ended::Rest { done };
         }
     }
@@ -248,11 +284,12 @@ pub fn run_making_room(grid: &Grid, state: &mut State, cycles: u64) -> Result<En
 {
     // The call tells the proof that this is a grid.
     grid.puzzle();
+    let mut asleep = TileSet::empty();
     let mut trace = Trace::new();
     let mut room = 0;
     for done in 0..cycles {
         room = keep_room(state, room)?;
-        if do_cycle(grid, state, &mut trace, false) == 0 {
+        if do_cycle(grid, &mut asleep, state, &mut trace, false) == 0 {
             return Ok(Ended::Rest { done });
         }
         room -= 1;

@@ -1,5 +1,5 @@
 //! What a tile does at its turn in a cycle.
-ghost use Rattle.std.specs.Prelude.{◌≡◌, ◌<◌, ◌∷◌, [], length, flat_map, IsTrue, Some, None, false, true, ◌&&◌};
+ghost use Rattle.std.specs.Prelude.{◌≡◌, ◌≢◌, ◌<◌, ◌∷◌, [], ℕ, length, flat_map, IsTrue, Some, None, false, true, ◌&&◌};
 ghost use Rattle.tis_base.specs.declared.tiles.Dir.{Dir as AnyDir};
 ghost use Rattle.tis_base.specs.declared.tiles.Dir.TheVariants.{Down};
 ghost use Rattle.std.specs.List.{find};
@@ -9,10 +9,11 @@ ghost use Rattle.tis_grid.specs.declared.event.Event.TheVariants as event;
 ghost use Rattle.tis_grid.specs.Events.{is_compute_at, is_enabled, is_giving, is_waiting, next_tile};
 ghost use Rattle.tis_clock.specs.Cycle.{state_after};
 ghost use Rattle.tis_clock.specs.Cycle as cycle;
+ghost use Rattle.tis_clock.specs.Sleepers.{Sleeps};
 ghost use Rattle.tis_clock.specs.Turns.{kept_at, acts, Keeps};
 
 use crate::acting::act;
-use tis_base::{Dir, Tile};
+use tis_base::{Dir, Tile, TileKind};
 use tis_grid::{Event, Grid, State, TileSet};
 use tis_node::Intent;
 
@@ -196,30 +197,106 @@ fn read(
     taken
 }
 
-/// What a compute tile does that was ready when the cycle began.
+// Whether a compute tile is there.
+#[inline(always)]
+fn computes(grid: &Grid, tile: Tile) -> bool
+    requires { tile.number < length grid.now.puzzle.tiles.kinds }
+    ensures { result ≡ is_compute_at grid.now tile.number }
+{
+    matches!(grid.puzzle().tiles.kind(tile), TileKind::Compute)
+}
+
+// Whether a tile that waits for a port waits for one that computes and wasn't writing when the cycle began, so that it does
+// nothing until that one writes.
+#[inline(always)]
+fn falls_asleep(grid: &Grid, writing: &TileSet, state: &State, tile: Tile, intent: Intent) -> bool
+    requires there { tile.number < length grid.now.puzzle.tiles.kinds }
+    requires ready { kept_at writing.now tile.number ≡ false }
+    requires local { is_enabled grid.now state.now.state (event.Local tile) ≡ false }
+    requires takes { (dir : AnyDir) → is_waiting grid.now state.now.state tile.number dir ≡ takes_from intent dir }
+    ensures { IsTrue result → Sleeps grid.now (kept_at writing.now) state.now.state tile.number }
+{
+    // The call tells the proof that this is a grid.
+    grid.puzzle();
+    match intent {
+        Intent::Takes(dir) => match grid.next(tile, dir) {
+            Some(next) => {
+                if was_writing(grid, writing, next) {
+                    return false;
+                }
+                computes(grid, next)
+            }
+            None => false,
+        },
+        Intent::TakesAny => false,
+        Intent::Nothing => false,
+        Intent::Local => false,
+        Intent::Gives(_) => false,
+        Intent::GivesAny => false,
+    }
+}
+
+// A tile that did nothing falls asleep, where it does nothing until another one writes.
+#[inline(always)]
+fn doze(
+    grid: &Grid,
+    writing: &TileSet,
+    asleep: &mut TileSet,
+    state: &State,
+    tile: Tile,
+    intent: Intent,
+)
+    requires there { tile.number < length grid.now.puzzle.tiles.kinds }
+    requires ready { kept_at writing.now tile.number ≡ false }
+    requires full { length asleep.old ≡ 12 }
+    requires awake { kept_at asleep.old tile.number ≡ false }
+    requires local { is_enabled grid.now state.now.state (event.Local tile) ≡ false }
+    requires takes { (dir : AnyDir) → is_waiting grid.now state.now.state tile.number dir ≡ takes_from intent dir }
+    ensures full { length asleep.new ≡ 12 }
+    ensures asleep { kept_at asleep.new tile.number ≡ true → Sleeps grid.now (kept_at writing.now) state.now.state tile.number }
+    ensures others { (other : ℕ) → other ≢ tile.number → kept_at asleep.new other ≡ kept_at asleep.old other }
+{
+    // The call tells the proof how many tiles there are.
+    grid.puzzle().tiles.shape();
+    if falls_asleep(grid, writing, state, tile, intent) {
+        asleep.put(tile, true);
+    }
+}
+
+/// What a compute tile does that was ready when the cycle began. Where it does nothing until another one writes, it falls asleep.
 #[inline(always)]
 pub(crate) fn read_or_step(
     grid: &Grid,
     writing: &TileSet,
+    asleep: &mut TileSet,
     state: &mut State,
     tile: Tile,
 ) -> Option<Event>
     requires fits { Fits grid.now state.old.state }
     requires there { tile.number < length grid.now.puzzle.tiles.kinds }
     requires ready { kept_at writing.now tile.number ≡ false }
+    requires full { length asleep.old ≡ 12 }
+    requires awake { kept_at asleep.old tile.number ≡ false }
     requires computes { IsTrue (is_compute_at grid.now tile.number) }
     ensures chosen { result ≡ cycle.reads_or_steps grid.now (kept_at writing.now) state.old.state tile.number }
     ensures state { state.new.state ≡ state_after grid.now state.old.state (acts result) }
     ensures spares { state.new.spares ≡ state.old.spares }
     ensures fits { Fits grid.now state.new.state }
+    ensures full { length asleep.new ≡ 12 }
+    ensures asleep { kept_at asleep.new tile.number ≡ true → Sleeps grid.now (kept_at writing.now) state.new.state tile.number }
+    ensures others { (other : ℕ) → other ≢ tile.number → kept_at asleep.new other ≡ kept_at asleep.old other }
 {
     // The call tells the proof that this is a grid.
     grid.puzzle();
-    let intent = grid.advance_node(state, tile);
+    let intent = grid.advance(state, tile);
     if intent.is_local() {
         return Some(Event::Local(tile));
     }
-    read(grid, writing, state, tile, intent)
+    let taken = read(grid, writing, state, tile, intent);
+    if let None = taken {
+        doze(grid, writing, asleep, state, tile, intent);
+    }
+    taken
 }
 
 // The output whose column ends in this tile takes what it gives downwards.

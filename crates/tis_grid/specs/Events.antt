@@ -3,6 +3,7 @@ use Rattle.std.specs.Prelude.{ℕ, ◌+◌, ◌-◌, ◌*◌, ℤ, pos, Bool, fa
 use Rattle.tis_base.specs.Tiles.{is_compute, is_memory, neighbour_of, opposite}
 use Rattle.tis_base.specs.declared.tiles.Dir.{Dir}
 use Rattle.tis_base.specs.declared.tiles.Dir.TheVariants.{Up, Down}
+use Rattle.tis_base.specs.declared.tiles.TileKind.{TileKind}
 use Rattle.tis_base.specs.declared.tiles.TileKind.TheVariants.{Damaged}
 use Rattle.tis_asm.specs.declared.program.MarkedInstr.{MarkedInstr}
 use Rattle.tis_asm.specs.Programs.{program_at}
@@ -35,8 +36,11 @@ abbrev pub is_memory_at : Grid → ℕ → Bool
 is_memory_at grid tile = is_memory (get_or grid.puzzle.tiles.kinds tile Damaged)
 
 -- whether a tile is there, computes, and has a program
+abbrev pub works_on : List TileKind → List (List MarkedInstr) → ℕ → Bool
+works_on kinds programs tile = is_compute (get_or kinds tile Damaged) && nat_lt 0 (length (program_at programs tile))
+
 abbrev pub works : Grid → ℕ → Bool
-works grid tile = is_compute_at grid tile && nat_lt 0 (length (program_of grid tile))
+works grid tile = works_on grid.puzzle.tiles.kinds grid.programs tile
 
 -- whether a compute tile waits for a value from this port
 abbrev pub is_waiting : Grid → State → ℕ → Dir → Bool

@@ -32,31 +32,10 @@ impl Grid {
         self.act(state, event);
     }
 
-    /// Does a tile's instruction, where it needs no port, and tells what its node would have done: [`Grid::intent`], and
+    /// Does the instruction of a compute tile, where it needs no port, and tells what its node would have done: [`Grid::intent`], and
     /// [`Grid::apply`] of a local event, in one look.
     #[inline(always)]
     pub fn advance(&self, state: &mut State, tile: Tile) -> Intent
-        requires fits { Fits self.now state.old.state }
-        requires there { tile.number < length self.now.puzzle.tiles.kinds }
-        ensures local { is_enabled self.now state.old.state (events.Local tile) ≡ is_local result }
-        ensures takes { (dir : AnyDir) → is_waiting self.now state.old.state tile.number dir ≡ takes_from result dir }
-        ensures gives { (dir : AnyDir) → is_giving self.now state.old.state tile.number dir ≡ gives_to result dir }
-        ensures steps { IsTrue (is_local result) → state.new.state ≡ after_event self.now state.old.state (events.Local tile) }
-        ensures stays { ¬ IsTrue (is_local result) → state.new.state ≡ state.old.state }
-        ensures spares { state.new.spares ≡ state.old.spares }
-        ensures fits { Fits self.now state.new.state }
-    {
-        // The call tells the proof that this is a grid.
-        self.puzzle();
-        if !self.is_compute(tile) {
-            return Intent::Nothing;
-        }
-        self.advance_node(state, tile)
-    }
-
-    /// The same of a compute tile.
-    #[inline(always)]
-    pub fn advance_node(&self, state: &mut State, tile: Tile) -> Intent
         requires fits { Fits self.now state.old.state }
         requires there { tile.number < length self.now.puzzle.tiles.kinds }
         requires computes { IsTrue (is_compute_at self.now tile.number) }

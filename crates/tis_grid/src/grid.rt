@@ -9,9 +9,9 @@ ghost use Rattle.tis_base.specs.Tiles.{IsOnGrid};
 ghost use Rattle.tis_asm.specs.Programs.{IsSound, program_at};
 ghost use Rattle.tis_grid.specs.Puzzle.{puzzle_of, has_output, has_input};
 ghost use Rattle.tis_grid.specs.State as at;
-ghost use Rattle.tis_grid.specs.Events.{is_enabled, works};
+ghost use Rattle.tis_grid.specs.Events.{is_enabled, works, works_on};
 ghost use Rattle.tis_grid.specs.Orders.{Fits, IsAtRest};
-ghost use Rattle.tis_grid.specs.HeldGrid.{place_of, input_values, works_on};
+ghost use Rattle.tis_grid.specs.HeldGrid.{place_of, input_values};
 ghost use Rattle.tis_grid.specs.TileSets.{has};
 
 use crate::event::Event;

@@ -25,6 +25,7 @@ loop-done-preserved c =
     let some : length (cycle_events grid here) ≡ 0 → ⊥ = λ none. c.if-do_cycle-eq0.false (c.do_cycle.ensures.count ∙ none) in
     record {
       fits = c.do_cycle.ensures.fits;
+      asleep = c.do_cycle.ensures.asleep;
       led = c.do_cycle.ensures.state ∙ ap (after_cycle grid) c.loop-done.invariant.led ∙ sym (cycle_more grid c.args.state.now.state c.loop-done.done);
       works = works_more grid c.args.state.now.state c.loop-done.done c.loop-done.invariant.works (λ rest. works grid here c.puzzle.ensures.grid some (subst (IsAtRest grid) (sym c.loop-done.invariant.led) rest));
       room = λ position stands. let had = c.loop-done.invariant.room position stands in let one = c.do_cycle.ensures.spares position in omega (arith, had, one);

@@ -4,7 +4,8 @@ use Rattle.std.specs.Prelude.{IsTrue}
 use Rattle.tis_grid.specs.Puzzle.{has_output}
 use Rattle.tis_grid.specs.Orders.{Fits}
 use Rattle.tis_grid.specs.HeldState.{spare_at}
-use Rattle.tis_clock.specs.Cycle.{after_cycles}
+use Rattle.tis_clock.specs.Cycle.{after_cycles, writers}
+use Rattle.tis_clock.specs.Sleepers.{AreAsleep}
 use Rattle.tis_clock.specs.Runs.{WorksBefore, LowersBy}
 use Rattle.tis_clock.proofs.cycles.run.Given as goal
 
@@ -12,6 +13,7 @@ abbrev pub invariant-loop-done : goal.invariant-loop-done
 invariant-loop-done l = record {
   fits : Fits l.grid l.state.state;
   led : l.state.state ≡ after_cycles l.grid l.initial.state.state l.done;
+  asleep : AreAsleep l.grid (writers l.state.state) l.state.state l.asleep;
   works : WorksBefore l.grid l.initial.state.state l.done;
   room : (position : ℕ) → IsTrue (has_output l.grid.puzzle.outputs position) → l.cycles - l.done ≤ spare_at l.state.spares position;
   lowers : LowersBy l.done l.initial.state.spares l.state.spares;

@@ -10,27 +10,37 @@ use Rattle.tis_clock.specs.Turns.{kept_at, acts}
 use Rattle.tis_clock.proofs.Intended.{not_true, steps}
 use Rattle.tis_clock.proofs.turns.read_or_step.Goals as goal
 
-pub read-requires-clause-local : goal.read-requires-clause-local
-read-requires-clause-local c =
-    let not_local : is_local c.advance_node-intent.result ≡ false = sym c.is_local.ensures ∙ c.if-is_local.false in
-    ap (λ (s : State). is_enabled c.args.grid.now s (Local c.args.tile)) (c.advance_node-intent.ensures.stays (not_true (is_local c.advance_node-intent.result) not_local)) ∙ c.advance_node-intent.ensures.local ∙ not_local
+pub read-taken-requires-clause-local : goal.read-taken-requires-clause-local
+read-taken-requires-clause-local c =
+    let not_local : is_local c.advance-intent.result ≡ false = sym c.is_local.ensures ∙ c.if-is_local.false in
+    ap (λ (s : State). is_enabled c.args.grid.now s (Local c.args.tile)) (c.advance-intent.ensures.stays (not_true (is_local c.advance-intent.result) not_local)) ∙ c.advance-intent.ensures.local ∙ not_local
 
-pub read-requires-clause-takes : goal.read-requires-clause-takes
-read-requires-clause-takes c =
-    let not_local : is_local c.advance_node-intent.result ≡ false = sym c.is_local.ensures ∙ c.if-is_local.false in
-    λ dir. ap (λ (s : State). is_waiting c.args.grid.now s c.args.tile.number dir) (c.advance_node-intent.ensures.stays (not_true (is_local c.advance_node-intent.result) not_local)) ∙ c.advance_node-intent.ensures.takes dir
+pub read-taken-requires-clause-takes : goal.read-taken-requires-clause-takes
+read-taken-requires-clause-takes c =
+    let not_local : is_local c.advance-intent.result ≡ false = sym c.is_local.ensures ∙ c.if-is_local.false in
+    λ dir. ap (λ (s : State). is_waiting c.args.grid.now s c.args.tile.number dir) (c.advance-intent.ensures.stays (not_true (is_local c.advance-intent.result) not_local)) ∙ c.advance-intent.ensures.takes dir
 
 pub returns-then-is_local-clause-chosen : goal.returns-then-is_local-clause-chosen
 returns-then-is_local-clause-chosen c =
     steps c.args.grid.now c.puzzle.ensures.grid c.args.state.now.state (kept_at c.args.writing.now) c.args.tile.number c.requires.there c.requires.ready
-    (c.advance_node-intent.ensures.local ∙ sym c.is_local.ensures ∙ c.if-is_local.true)
+    (c.advance-intent.ensures.local ∙ sym c.is_local.ensures ∙ c.if-is_local.true)
 
-pub returns-clause-chosen : goal.returns-clause-chosen
-returns-clause-chosen c =
-    let not_local : is_local c.advance_node-intent.result ≡ false = sym c.is_local.ensures ∙ c.if-is_local.false in
-    c.read.ensures.chosen ∙ ap (λ (s : State). reads_or_steps c.args.grid.now (kept_at c.args.writing.now) s c.args.tile.number) (c.advance_node-intent.ensures.stays (not_true (is_local c.advance_node-intent.result) not_local))
+pub returns-in-None-clause-chosen : goal.returns-in-None-clause-chosen
+returns-in-None-clause-chosen c =
+    let not_local : is_local c.advance-intent.result ≡ false = sym c.is_local.ensures ∙ c.if-is_local.false in
+    c.read-taken.ensures.chosen ∙ ap (λ (s : State). reads_or_steps c.args.grid.now (kept_at c.args.writing.now) s c.args.tile.number) (c.advance-intent.ensures.stays (not_true (is_local c.advance-intent.result) not_local))
 
-pub returns-clause-state : goal.returns-clause-state
-returns-clause-state c =
-    let not_local : is_local c.advance_node-intent.result ≡ false = sym c.is_local.ensures ∙ c.if-is_local.false in
-    c.read.ensures.state ∙ ap (λ (s : State). state_after c.args.grid.now s (acts c.read.result)) (c.advance_node-intent.ensures.stays (not_true (is_local c.advance_node-intent.result) not_local))
+pub returns-in_default-clause-chosen : goal.returns-in_default-clause-chosen
+returns-in_default-clause-chosen c =
+    let not_local : is_local c.advance-intent.result ≡ false = sym c.is_local.ensures ∙ c.if-is_local.false in
+    c.read-taken.ensures.chosen ∙ ap (λ (s : State). reads_or_steps c.args.grid.now (kept_at c.args.writing.now) s c.args.tile.number) (c.advance-intent.ensures.stays (not_true (is_local c.advance-intent.result) not_local))
+
+pub returns-in-None-clause-state : goal.returns-in-None-clause-state
+returns-in-None-clause-state c =
+    let not_local : is_local c.advance-intent.result ≡ false = sym c.is_local.ensures ∙ c.if-is_local.false in
+    c.read-taken.ensures.state ∙ ap (λ (s : State). state_after c.args.grid.now s (acts c.read-taken.result)) (c.advance-intent.ensures.stays (not_true (is_local c.advance-intent.result) not_local))
+
+pub returns-in_default-clause-state : goal.returns-in_default-clause-state
+returns-in_default-clause-state c =
+    let not_local : is_local c.advance-intent.result ≡ false = sym c.is_local.ensures ∙ c.if-is_local.false in
+    c.read-taken.ensures.state ∙ ap (λ (s : State). state_after c.args.grid.now s (acts c.read-taken.result)) (c.advance-intent.ensures.stays (not_true (is_local c.advance-intent.result) not_local))

@@ -9,7 +9,7 @@ use Rattle.tis_base.specs.declared.tiles.TileKind.{TileKind}
 use Rattle.tis_base.specs.declared.tiles.TileKind.TheVariants.{Damaged}
 use Rattle.tis_asm.specs.Programs.{program_at}
 use Rattle.tis_grid.specs.TileSets.{has}
-use Rattle.tis_grid.specs.HeldGrid.{works_on}
+use Rattle.tis_grid.specs.Events.{works_on}
 use Rattle.tis_grid.proofs.grid.working_tiles.Goals as goal
 
 before : (k number : ℕ) → k < number + 1 → (k ≡ number → ⊥) → k < number

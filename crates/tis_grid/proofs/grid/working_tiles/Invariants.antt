@@ -1,6 +1,6 @@
 use Rattle.std.proofs.Common.{◌≡◌, ℕ, ◌<◌, length}
 use Rattle.tis_grid.specs.TileSets.{has}
-use Rattle.tis_grid.specs.HeldGrid.{works_on}
+use Rattle.tis_grid.specs.Events.{works_on}
 use Rattle.tis_grid.proofs.grid.working_tiles.Given as goal
 
 abbrev pub invariant-loop-number : goal.invariant-loop-number

@@ -11,7 +11,7 @@ use Rattle.tis_grid.specs.Events.{program_of, is_compute_at, with_node, is_enabl
 use Rattle.tis_grid.specs.Orders.{Fits}
 use Rattle.tis_grid.proofs.Enabled.{enabled_parts}
 use Rattle.tis_grid.proofs.Fitting.{event_fitting}
-use Rattle.tis_grid.proofs.grid.Grid.advance_node.Goals as goal
+use Rattle.tis_grid.proofs.grid.Grid.advance.Goals as goal
 
 pub returns-clause-fits : goal.returns-clause-fits
 returns-clause-fits c =
