@@ -4,3 +4,4 @@ pub mod Numerals
 pub mod Backs
 pub mod Parted
 pub mod Assigning
+pub mod Reaching
