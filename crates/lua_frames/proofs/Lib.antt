@@ -5,3 +5,4 @@ pub mod Backs
 pub mod Parted
 pub mod Assigning
 pub mod Reaching
+pub mod Taking

@@ -1,20 +1,21 @@
--- Expressions that have their value where they stand: they have no parts and call nothing, and there is no fault in them.
-use Rattle.std.specs.Prelude.{◌≡◌, ℕ, ◌+◌, ◌<◌, Bool, true, false, Option, Some, None, Result, Ok, Err}
+-- Expressions that have their value where they stand, and operations on them.
+use Rattle.std.specs.Prelude.{◌≡◌, ℕ, ◌+◌, ◌<◌, List, Bool, true, false, Option, Some, None, Result, Ok, Err}
 use Rattle.lua_machine.specs.Answer.{most_units}
-use Rattle.lua_machine.specs.State.{State, value_of}
+use Rattle.lua_machine.specs.State.{State, gives, value_of}
 use Rattle.lua_machine.specs.Tree as t
 use Rattle.lua_machine.specs.Tree.{Node, Nodes, ◌and◌}
-use Rattle.lua_machine.specs.Machine.{Making, Turned}
-use Rattle.lua_machine.specs.Turn.{begun}
+use Rattle.lua_machine.specs.Machine.{Frame, Making, Turned}
+use Rattle.lua_machine.specs.Turn.{back, begun, evaluating}
 use Rattle.lua_machine.specs.Value.{LuaValue, Nil, Truth, Number}
 use Rattle.lua_machine.specs.declared.error.LuaError.{LuaError}
 use Rattle.lua_machine.specs.declared.error.LuaError.TheVariants as e
-use Rattle.lua_state.specs.Store.{Store, parts, pushed, without}
+use Rattle.tis_base.specs.declared.memory.NoMemory.{NoMemory}
+use Rattle.lua_state.specs.Store.{Store, in_state, parts, pushed, without}
 use Rattle.lua_frames.specs.declared.machine.Machine.{Machine}
 use Rattle.lua_frames.specs.Machines.{frames_with, state_in, store_in}
-use Rattle.lua_frames.specs.Turns.{Comes, Reaches}
+use Rattle.lua_frames.specs.Turns.{Comes, Reaches, Stops}
 
--- the value, if the expression is simple
+-- the value, if the expression is simple: it has no parts, calls nothing and has no fault
 abbrev pub simple_value : Node → State → Option LuaValue
 simple_value t.Nil state = Some Nil
 simple_value t.True state = Some (Truth true)
@@ -23,7 +24,14 @@ simple_value (t.Number value) state = Some (Number value)
 simple_value (t.Name called) state = Some (value_of called state)
 simple_value _ state = None
 
--- a value was put and its unit paid, or nothing was done; where the budget is spent more would be paid than may be
+-- it was put, or nothing was done
+abbrev pub Pushes : Result Bool NoMemory → Option LuaValue → Store → Store → Type 0
+Pushes (Ok true) (Some value) old new = new ≡ pushed value old
+Pushes (Ok true) None old new = ⊥
+Pushes (Ok false) value old new = new ≡ old
+Pushes (Err why) value old new = Unit {0}
+
+-- and its unit was paid; where the budget is spent more would be paid than may be
 abbrev pub Puts : Result Bool LuaError → Option LuaValue → Store → ℕ → Store → ℕ → Type 0
 Puts (Ok true) (Some value) old cost new now = (new ≡ pushed value old) × (now ≡ cost + 1)
 Puts (Ok true) None old cost new now = ⊥
@@ -31,6 +39,22 @@ Puts (Ok false) value old cost new now = (new ≡ old) × (now ≡ cost)
 Puts (Err e.NoMemory) value old cost new now = Unit {0}
 Puts (Err e.Budget) (Some value) old cost new now = most_units < cost + 1
 Puts (Err why) value old cost new now = ⊥
+
+-- the values of two parts were put, and their units and the one of what they are parts of were paid; or nothing was done
+abbrev pub PutsBoth : Result Bool LuaError → Option LuaValue → Option LuaValue → Store → ℕ → Store → ℕ → Type 0
+PutsBoth (Ok true) (Some left) (Some right) old cost new now = (new ≡ pushed right (pushed left old)) × (now ≡ cost + 3)
+PutsBoth (Ok true) left right old cost new now = ⊥
+PutsBoth (Ok false) left right old cost new now = (new ≡ old) × (now ≡ cost)
+PutsBoth (Err e.NoMemory) left right old cost new now = Unit {0}
+PutsBoth (Err e.Budget) (Some left) (Some right) old cost new now = most_units < cost + 3
+PutsBoth (Err why) left right old cost new now = ⊥
+
+-- turns evaluated an expression, whose value was put; or nothing was done; or they were stopped in it
+abbrev pub Gives : Result Bool LuaError → Node → Store → ℕ → Store → ℕ → Type 0
+Gives (Ok true) node old cost new now =
+    (value : LuaValue) × (state : State) × (new ≡ pushed value (in_state state old)) × ((frames : List Frame) (calls : ℕ) → Reaches (evaluating node frames calls old.state cost) (back (gives value state) frames calls now))
+Gives (Ok false) node old cost new now = (new ≡ old) × (now ≡ cost)
+Gives (Err why) node old cost new now = (frames : List Frame) (calls : ℕ) → (to : Turned) × Reaches (evaluating node frames calls old.state cost) to × Stops why now to
 
 -- the parts that are left, where the newest so many values are those of the parts before
 abbrev pub parts_left : Making → ℕ → Nodes → Machine → Turned

@@ -47,7 +47,7 @@ pub(crate) fn numeral(value: i64) -> Result<LuaNumber, NoMemory>
     taken((-9_007_199_254_740_992_i64).max(low))
 }
 
-fn is_logical(op: BinaryOp) -> bool
+pub(crate) fn is_logical(op: BinaryOp) -> bool
     ensures { result ≡ is_logical op }
 {
     match op {
