@@ -4,3 +4,5 @@ pub mod Numerals
 pub mod Backs
 pub mod Parted
 pub mod Assigning
+pub mod Reaching
+pub mod Taking

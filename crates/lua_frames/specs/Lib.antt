@@ -6,5 +6,6 @@ pub mod FunctionTables
 pub mod Frames
 pub mod Machines
 pub mod Turns
+pub mod Simple
 pub mod Steps
 pub mod Assignments

@@ -1,8 +1,10 @@
 -- What a turn of a machine in memory comes to.
-use Rattle.std.specs.Prelude.{◌≡◌, ℕ, ◌<◌, Result, Ok, Err}
+use Rattle.std.specs.Prelude.{◌≡◌, ℕ, ◌<◌, List, Result, Ok, Err}
+use Rattle.lua_machine.specs.Tree.{ItemNode}
+use Rattle.lua_machine.specs.Functions.{Function}
 use Rattle.lua_machine.specs.Answer.{most_units}
 use Rattle.lua_machine.specs.Machine.{Turned, Next, Ended}
-use Rattle.lua_machine.specs.Turn.{paid}
+use Rattle.lua_machine.specs.Turn.{after_turns, paid}
 use Rattle.lua_machine.specs.Value as lua
 use Rattle.lua_machine.specs.declared.error.LuaError.{LuaError}
 use Rattle.lua_machine.specs.declared.error.LuaError.TheVariants as e
@@ -25,3 +27,14 @@ Stops e.NoMemory cost wanted = Unit {0}
 abbrev pub Turns : Result Control LuaError → Machine → Turned → Type 0
 Turns (Ok control) now wanted = Next (machine_of control now) ≡ wanted
 Turns (Err why) now wanted = Stops why now.units wanted
+
+-- turns lead from one to the other, whatever chunk they are of
+pub record Reaches (from to : Turned) : Type 0 where
+  pub turns : ℕ
+  pub after : (chunk : List ItemNode) (main : Function) → after_turns chunk main turns from ≡ to
+
+-- turns behind what is wanted came to this, unless memory ran out
+pub record Comes (result : Result Control LuaError) (now : Machine) (wanted : Turned) : Type 0 where
+  pub to : Turned
+  pub reaches : Reaches wanted to
+  pub turns : Turns result now to

@@ -9,7 +9,7 @@ ghost use Rattle.lua_frames.specs.Frames.{making_of};
 ghost use Rattle.lua_frames.specs.Machines.{frames_with, state_in, store_in, waiting};
 ghost use Rattle.lua_frames.specs.Parts.{function_in, nodes_in};
 ghost use Rattle.lua_operations.specs.Functions.{math_in, table_in};
-ghost use Rattle.lua_frames.specs.Turns.{Turns};
+ghost use Rattle.lua_frames.specs.Turns.{Comes, Turns};
 
 use crate::control::Control;
 use crate::frame::{Frame, Making, push_frame};
@@ -25,14 +25,18 @@ impl<'a> Machine<'a> {
     /// Begins parts, of which there is one at least.
     pub(crate) fn begin(
         &mut self,
+        alloc: Global,
         making: Making<'a>,
         first: &'a Expr,
         others: Parts<'a>,
     ) -> Result<Control<'a>, LuaError>
-        ensures { Turns result self.new (begun (making_of making.entry) [] (node_of first.now and nodes_in others.entry) (waiting self.old) self.old.calls (state_in self.old) self.old.units) }
+        ensures { Comes result self.new (begun (making_of making.entry) [] (node_of first.now and nodes_in others.entry) (waiting self.old) self.old.calls (state_in self.old) self.old.units) }
     {
-        push_frame(&mut self.frames, Frame::Part(making, 0, others))?;
-        Ok(Control::Evaluate(first))
+        match self.take_part(alloc, 0, first) {
+            Ok(Some(more)) => self.go_on(alloc, making, more, others),
+            Ok(None) => self.wait_for(making, 0, first, others),
+            Err(why) => Err(why),
+        }
     }
 
     /// Enters a function with the newest so many values, where one more call may be open.
@@ -56,6 +60,7 @@ impl<'a> Machine<'a> {
     }
 
     /// Begins a call of a function of the chunk.
+    #[tactic(auto, using(crate::proofs::Reaching::at_once))]
     pub(crate) fn begin_call(
         &mut self,
         alloc: Global,
@@ -63,45 +68,60 @@ impl<'a> Machine<'a> {
         args: &'a [Expr],
         line: usize,
     ) -> Result<Control<'a>, LuaError>
-        ensures { Turns result self.new (begun (machine.Calls (function_in function.entry) line) [] (nodes (map node_of args.now)) (waiting self.old) self.old.calls (state_in self.old) self.old.units) }
+        ensures { Comes result self.new (begun (machine.Calls (function_in function.entry) line) [] (nodes (map node_of args.now)) (waiting self.old) self.old.calls (state_in self.old) self.old.units) }
     {
         match args.split_first() {
             Some((first, others)) => {
-                self.begin(Making::Calls(function, line), first, Parts::Several(others))
+                self.begin(
+                    alloc,
+                    Making::Calls(function, line),
+                    first,
+                    Parts::Several(others),
+                )
             }
             None => self.enter(alloc, function, 0, line),
         }
     }
 
     /// Begins a call of a function of `math`.
+    #[tactic(auto, using(crate::proofs::Reaching::at_once))]
     pub(crate) fn begin_math(
         &mut self,
+        alloc: Global,
         function: MathFunction,
         args: &'a [Expr],
         line: usize,
     ) -> Result<Control<'a>, LuaError>
-        ensures { Turns result self.new (begun (machine.Math (math_in function) line) [] (nodes (map node_of args.now)) (waiting self.old) self.old.calls (state_in self.old) self.old.units) }
+        ensures { Comes result self.new (begun (machine.Math (math_in function) line) [] (nodes (map node_of args.now)) (waiting self.old) self.old.calls (state_in self.old) self.old.units) }
     {
         match args.split_first() {
             Some((first, others)) => {
-                self.begin(Making::Math(function, line), first, Parts::Several(others))
+                self.begin(
+                    alloc,
+                    Making::Math(function, line),
+                    first,
+                    Parts::Several(others),
+                )
             }
             None => Err(LuaError::TypeFault { line }),
         }
     }
 
     /// Begins a call of a function of `table`.
+    #[tactic(auto, using(crate::proofs::Reaching::at_once))]
     pub(crate) fn begin_table(
         &mut self,
+        alloc: Global,
         function: TableFunction,
         args: &'a [Expr],
         line: usize,
     ) -> Result<Control<'a>, LuaError>
-        ensures { Turns result self.new (begun (machine.Tables (table_in function) line) [] (nodes (map node_of args.now)) (waiting self.old) self.old.calls (state_in self.old) self.old.units) }
+        ensures { Comes result self.new (begun (machine.Tables (table_in function) line) [] (nodes (map node_of args.now)) (waiting self.old) self.old.calls (state_in self.old) self.old.units) }
     {
         match args.split_first() {
             Some((first, others)) => {
                 self.begin(
+                    alloc,
                     Making::Tables(function, line),
                     first,
                     Parts::Several(others),

@@ -14,7 +14,7 @@ ghost use Rattle.lua_frames.specs.Machines.{state_in, waiting};
 ghost use Rattle.lua_frames.specs.Parts.{entries_in};
 ghost use Rattle.lua_operations.specs.Functions.{math_in};
 ghost use Rattle.lua_frames.specs.Quotients.{quotient_in};
-ghost use Rattle.lua_frames.specs.Turns.{Turns};
+ghost use Rattle.lua_frames.specs.Turns.{Comes, Turns};
 
 use crate::control::Control;
 use crate::frame::{Frame, Making, push_frame};
@@ -40,14 +40,14 @@ fn taken(value: i64) -> Result<LuaNumber, NoMemory>
 }
 
 // A numeral; one past 2^53 either way is the number at that end.
-fn numeral(value: i64) -> Result<LuaNumber, NoMemory>
+pub(crate) fn numeral(value: i64) -> Result<LuaNumber, NoMemory>
     ensures { IfOk result (λ n. n ≡ numeral value) }
 {
     let low = 9_007_199_254_740_992_i64.min(value);
     taken((-9_007_199_254_740_992_i64).max(low))
 }
 
-fn is_logical(op: BinaryOp) -> bool
+pub(crate) fn is_logical(op: BinaryOp) -> bool
     ensures { result ≡ is_logical op }
 {
     match op {
@@ -99,6 +99,7 @@ impl<'a> Machine<'a> {
     }
 
     // Begins a call of a function of the chunk, whose unit is paid.
+    #[tactic(auto, using(crate::proofs::Reaching::at_once))]
     fn call(
         &mut self,
         alloc: Global,
@@ -109,7 +110,7 @@ impl<'a> Machine<'a> {
         cost: u64,
     ) -> Result<Control<'a>, LuaError>
         requires { self.old.units ≡ cost + 1 }
-        ensures { Turns result self.new (call_begun (function_of (items_of functions.now) name.now) (nodes (map node_of args.now)) line (waiting self.old) self.old.calls (state_in self.old) cost) }
+        ensures { Comes result self.new (call_begun (function_of (items_of functions.now) name.now) (nodes (map node_of args.now)) line (waiting self.old) self.old.calls (state_in self.old) cost) }
     {
         match functions.find(name) {
             Some(function) => self.begin_call(alloc, function, args, line),
@@ -120,60 +121,72 @@ impl<'a> Machine<'a> {
     // Begins a call of a function of `math`, whose unit is paid; a quotient under `math.floor` pays one more.
     fn math(
         &mut self,
+        alloc: Global,
         function: MathFunction,
         args: &'a [Expr],
         line: usize,
         cost: u64,
     ) -> Result<Control<'a>, LuaError>
         requires { self.old.units ≡ cost + 1 }
-        ensures { Turns result self.new (math_begun (Some (math_in function)) (nodes (map node_of args.now)) line (waiting self.old) self.old.calls (state_in self.old) cost) }
+        ensures { Comes result self.new (math_begun (Some (math_in function)) (nodes (map node_of args.now)) line (waiting self.old) self.old.calls (state_in self.old) cost) }
     {
         match floored(function, args) {
             Some(of) => {
                 self.units.pay()?;
-                self.begin(Making::Floors(of.line), of.left, Parts::One(of.right))
+                self.begin(
+                    alloc,
+                    Making::Floors(of.line),
+                    of.left,
+                    Parts::One(of.right),
+                )
             }
-            None => self.begin_math(function, args, line),
+            None => self.begin_math(alloc, function, args, line),
         }
     }
 
     // Begins a call of `math`, whose unit is paid.
+    #[tactic(auto, using(crate::proofs::Reaching::at_once))]
     fn math_call(
         &mut self,
+        alloc: Global,
         name: &[u8],
         args: &'a [Expr],
         line: usize,
         cost: u64,
     ) -> Result<Control<'a>, LuaError>
         requires { self.old.units ≡ cost + 1 }
-        ensures { Turns result self.new (math_begun (math_of name.now) (nodes (map node_of args.now)) line (waiting self.old) self.old.calls (state_in self.old) cost) }
+        ensures { Comes result self.new (math_begun (math_of name.now) (nodes (map node_of args.now)) line (waiting self.old) self.old.calls (state_in self.old) cost) }
     {
         match math_function(name) {
-            Some(function) => self.math(function, args, line, cost),
+            Some(function) => self.math(alloc, function, args, line, cost),
             None => Err(LuaError::UnknownName { line }),
         }
     }
 
     // Begins a call of `table`, whose unit is paid.
+    #[tactic(auto, using(crate::proofs::Reaching::at_once))]
     fn table_call(
         &mut self,
+        alloc: Global,
         name: &[u8],
         args: &'a [Expr],
         line: usize,
         cost: u64,
     ) -> Result<Control<'a>, LuaError>
         requires { self.old.units ≡ cost + 1 }
-        ensures { Turns result self.new (table_begun (table_of name.now) (nodes (map node_of args.now)) line (waiting self.old) self.old.calls (state_in self.old) cost) }
+        ensures { Comes result self.new (table_begun (table_of name.now) (nodes (map node_of args.now)) line (waiting self.old) self.old.calls (state_in self.old) cost) }
     {
         match table_function(name) {
-            Some(function) => self.begin_table(function, args, line),
+            Some(function) => self.begin_table(alloc, function, args, line),
             None => Err(LuaError::UnknownName { line }),
         }
     }
 
     // Begins a binary operator, whose unit is paid.
+    #[tactic(auto, using(crate::proofs::Reaching::at_once))]
     fn operator(
         &mut self,
+        alloc: Global,
         op: BinaryOp,
         left: &'a Expr,
         right: &'a Expr,
@@ -181,13 +194,13 @@ impl<'a> Machine<'a> {
         cost: u64,
     ) -> Result<Control<'a>, LuaError>
         requires { self.old.units ≡ cost + 1 }
-        ensures { Turns result self.new (binary_begun (is_logical op) op (node_of left.now) (node_of right.now) line (waiting self.old) self.old.calls (state_in self.old) cost) }
+        ensures { Comes result self.new (binary_begun (is_logical op) op (node_of left.now) (node_of right.now) line (waiting self.old) self.old.calls (state_in self.old) cost) }
     {
         if is_logical(op) {
             push_frame(&mut self.frames, Frame::LeftSide(op, right))?;
             Ok(Control::Evaluate(left))
         } else {
-            self.begin(Making::Binary(op, line), left, Parts::One(right))
+            self.begin(alloc, Making::Binary(op, line), left, Parts::One(right))
         }
     }
 
@@ -200,6 +213,7 @@ impl<'a> Machine<'a> {
     }
 
     // Begins what calls a function, or has parts of its own; its unit is paid.
+    #[tactic(auto, using(crate::proofs::Reaching::at_once))]
     fn begin_parts(
         &mut self,
         alloc: Global,
@@ -208,7 +222,7 @@ impl<'a> Machine<'a> {
         cost: u64,
     ) -> Result<Control<'a>, LuaError>
         requires { self.old.units ≡ cost + 1 }
-        ensures { Turns result self.new (expression_begun (items_of functions.now) (node_of expr.now) (waiting self.old) self.old.calls (state_in self.old) cost) }
+        ensures { Comes result self.new (expression_begun (items_of functions.now) (node_of expr.now) (waiting self.old) self.old.calls (state_in self.old) cost) }
     {
         match expr {
             Expr::Nil => self.nil(),
@@ -218,9 +232,15 @@ impl<'a> Machine<'a> {
             Expr::Str { text, line } => self.string(alloc, *line, text.bytes()),
             Expr::Name { name } => self.variable(alloc, name.bytes()),
             Expr::Index { table, key, line } => {
-                self.begin(Making::Indexes(*line), table.get(), Parts::One(key.get()))
+                self.begin(
+                    alloc,
+                    Making::Indexes(*line),
+                    table.get(),
+                    Parts::One(key.get()),
+                )
             }
             Expr::Member { table, name, line } => self.begin(
+                alloc,
                 Making::Selects(name.bytes(), *line),
                 table.get(),
                 Parts::Done,
@@ -229,32 +249,33 @@ impl<'a> Machine<'a> {
                 self.call(alloc, functions, name.bytes(), args.as_slice(), *line, cost)
             }
             Expr::MathCall { name, args, line } => {
-                self.math_call(name.bytes(), args.as_slice(), *line, cost)
+                self.math_call(alloc, name.bytes(), args.as_slice(), *line, cost)
             }
             Expr::TableCall { name, args, line } => {
-                self.table_call(name.bytes(), args.as_slice(), *line, cost)
+                self.table_call(alloc, name.bytes(), args.as_slice(), *line, cost)
             }
             Expr::Construct { entries } => self.construct(alloc, entries.as_slice()),
             Expr::Unary { op, of, line } => {
-                self.begin(Making::Unary(*op, *line), of.get(), Parts::Done)
+                self.begin(alloc, Making::Unary(*op, *line), of.get(), Parts::Done)
             }
             Expr::Binary {
                 op,
                 left,
                 right,
                 line,
-            } => self.operator(*op, left.get(), right.get(), *line, cost),
+            } => self.operator(alloc, *op, left.get(), right.get(), *line, cost),
         }
     }
 
     /// Begins an expression: its unit is paid, and its first part is evaluated.
+    #[tactic(auto, using(crate::proofs::Reaching::at_once))]
     pub fn evaluate(
         &mut self,
         alloc: Global,
         functions: &FunctionTable<'a>,
         expr: &'a Expr,
     ) -> Result<Control<'a>, LuaError>
-        ensures { Turns result self.new (expression_begun (items_of functions.now) (node_of expr.now) (waiting self.old) self.old.calls (state_in self.old) self.old.units) }
+        ensures { Comes result self.new (expression_begun (items_of functions.now) (node_of expr.now) (waiting self.old) self.old.calls (state_in self.old) self.old.units) }
     {
         let cost = self.units.spent();
         self.units.pay()?;

@@ -42,6 +42,7 @@ mod making;
 mod parts;
 mod quotient;
 mod resuming;
+mod simple;
 mod statements;
 mod storing;
 mod turns;

@@ -1,6 +1,6 @@
 //! What becomes of the values of parts.
-ghost use Rattle.std.specs.Prelude.{◌≡◌};
-ghost use Rattle.lua_machine.specs.Tree.{node_of, ◌and◌};
+ghost use Rattle.std.specs.Prelude.{◌≡◌, map};
+ghost use Rattle.lua_machine.specs.Tree.{node_of, nodes, none, ◌and◌};
 ghost use Rattle.lua_machine.specs.Library.{math_result, table_result};
 ghost use Rattle.lua_machine.specs.Turn.{back, begun, left, made};
 ghost use Rattle.lua_machine.specs.Yields.{binary_result, floor_result, indexed, put, put_member, unary_result, with_member};
@@ -9,7 +9,7 @@ ghost use Rattle.lua_frames.specs.Frames.{making_of};
 ghost use Rattle.lua_frames.specs.Machines.{frames_with, state_in, store_in};
 ghost use Rattle.lua_frames.specs.Parts.{nodes_in};
 ghost use Rattle.lua_operations.specs.Functions.{math_in, table_in};
-ghost use Rattle.lua_frames.specs.Turns.{Turns};
+ghost use Rattle.lua_frames.specs.Turns.{Comes, Turns};
 
 use crate::control::Control;
 use crate::frame::{Frame, Making, push_frame};
@@ -160,9 +160,9 @@ impl<'a> Machine<'a> {
         }
     }
 
-    // Begins the next part, where so many values are there, and this is behind it.
+    // Begins a part that isn't simple, where so many values are there, and these parts are behind it.
     #[inline(always)]
-    fn begin_next(
+    pub(crate) fn wait_for(
         &mut self,
         making: Making<'a>,
         count: usize,
@@ -175,6 +175,64 @@ impl<'a> Machine<'a> {
         Ok(Control::Evaluate(next))
     }
 
+    // The parts that are left of several; those that are simple are taken one after the other.
+    fn go_on_with_several(
+        &mut self,
+        alloc: Global,
+        making: Making<'a>,
+        start: usize,
+        all: &'a [Expr],
+    ) -> Result<Control<'a>, LuaError>
+        ensures { Comes result self.new (begun (making_of making.entry) (parts start (store_in self.old)) (nodes (map node_of all.now)) (frames_with self.old (without start (store_in self.old))) self.old.calls (state_in self.old) self.old.units) }
+    {
+        let mut left = all;
+        let mut count = start;
+        'parts: while let Some((next, others)) = left.split_first() {
+            match self.take_part(alloc, count, next) {
+                Ok(Some(more)) => count = more,
+                Ok(None) => return self.wait_for(making, count, next, Parts::Several(others)),
+                Err(why) => return Err(why),
+            }
+            left = others;
+        }
+        self.make(alloc, making, count)
+    }
+
+    // The last part, where so many values are there.
+    fn go_on_with_last(
+        &mut self,
+        alloc: Global,
+        making: Making<'a>,
+        count: usize,
+        last: &'a Expr,
+    ) -> Result<Control<'a>, LuaError>
+        ensures { Comes result self.new (begun (making_of making.entry) (parts count (store_in self.old)) (node_of last.now and none) (frames_with self.old (without count (store_in self.old))) self.old.calls (state_in self.old) self.old.units) }
+    {
+        match self.take_part(alloc, count, last) {
+            Ok(Some(more)) => self.make(alloc, making, more),
+            Ok(None) => self.wait_for(making, count, last, Parts::Done),
+            Err(why) => Err(why),
+        }
+    }
+
+    // The last two parts, where so many values are there.
+    fn go_on_with_two(
+        &mut self,
+        alloc: Global,
+        making: Making<'a>,
+        count: usize,
+        next: &'a Expr,
+        last: &'a Expr,
+    ) -> Result<Control<'a>, LuaError>
+        ensures { Comes result self.new (begun (making_of making.entry) (parts count (store_in self.old)) (node_of next.now and node_of last.now and none) (frames_with self.old (without count (store_in self.old))) self.old.calls (state_in self.old) self.old.units) }
+    {
+        match self.take_part(alloc, count, next) {
+            Ok(Some(more)) => self.go_on_with_last(alloc, making, more, last),
+            Ok(None) => self.wait_for(making, count, next, Parts::One(last)),
+            Err(why) => Err(why),
+        }
+    }
+
     /// The parts that are left, where the newest so many values are those of the parts before.
     #[inline(always)]
     pub(crate) fn go_on(
@@ -184,18 +242,13 @@ impl<'a> Machine<'a> {
         count: usize,
         others: Parts<'a>,
     ) -> Result<Control<'a>, LuaError>
-        ensures { Turns result self.new (begun (making_of making.entry) (parts count (store_in self.old)) (nodes_in others.entry) (frames_with self.old (without count (store_in self.old))) self.old.calls (state_in self.old) self.old.units) }
+        ensures { Comes result self.new (begun (making_of making.entry) (parts count (store_in self.old)) (nodes_in others.entry) (frames_with self.old (without count (store_in self.old))) self.old.calls (state_in self.old) self.old.units) }
     {
         match others {
             Parts::Done => self.make(alloc, making, count),
-            Parts::One(next) => self.begin_next(making, count, next, Parts::Done),
-            Parts::Two(next, last) => self.begin_next(making, count, next, Parts::One(last)),
-            Parts::Several(all) => match all.split_first() {
-                Some((next, others)) => {
-                    self.begin_next(making, count, next, Parts::Several(others))
-                }
-                None => self.make(alloc, making, count),
-            },
+            Parts::One(last) => self.go_on_with_last(alloc, making, count, last),
+            Parts::Two(next, last) => self.go_on_with_two(alloc, making, count, next, last),
+            Parts::Several(all) => self.go_on_with_several(alloc, making, count, all),
         }
     }
 }

@@ -10,7 +10,7 @@ ghost use Rattle.lua_state.specs.Store.{parts, without};
 ghost use Rattle.lua_frames.specs.Frames.{making_of};
 ghost use Rattle.lua_frames.specs.Machines.{frames_with, state_in, store_in};
 ghost use Rattle.lua_frames.specs.Parts.{arms_in, nodes_in};
-ghost use Rattle.lua_frames.specs.Turns.{Turns};
+ghost use Rattle.lua_frames.specs.Turns.{Comes, Turns};
 ghost use Rattle.lua_frames.specs.Ways.{beside_way, way_in};
 
 use crate::control::Control;
@@ -34,7 +34,7 @@ impl<'a> Machine<'a> {
         count: usize,
         others: Parts<'a>,
     ) -> Result<Control<'a>, LuaError>
-        ensures { Turns result self.new (begun (making_of making.entry) (parts count (beside_way way (store_in self.old)) ++ value_in (way_in way (store_in self.old)) ∷ []) (nodes_in others.entry) (frames_with self.old (without count (beside_way way (store_in self.old)))) self.old.calls (state_in self.old) self.old.units) }
+        ensures { Comes result self.new (begun (making_of making.entry) (parts count (beside_way way (store_in self.old)) ++ value_in (way_in way (store_in self.old)) ∷ []) (nodes_in others.entry) (frames_with self.old (without count (beside_way way (store_in self.old)))) self.old.calls (state_in self.old) self.old.units) }
     {
         match count.checked_add(1) {
             Some(more) => {

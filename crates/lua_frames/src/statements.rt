@@ -10,7 +10,7 @@ ghost use Rattle.lua_machine.specs.Turn.{begun, evaluating, left, statement_begu
 ghost use Rattle.lua_machine.specs.Value.{Nil};
 ghost use Rattle.lua_machine.specs.Yields.{bounds_parts, goes};
 ghost use Rattle.lua_frames.specs.Machines.{frames_with, state_in, store_in, waiting};
-ghost use Rattle.lua_frames.specs.Turns.{Turns};
+ghost use Rattle.lua_frames.specs.Turns.{Comes, Turns};
 
 use crate::control::Control;
 use crate::frame::{Frame, Making, push_frame};
@@ -64,20 +64,22 @@ impl<'a> Machine<'a> {
     // Begins the bounds of a `for`.
     fn bounds(
         &mut self,
+        alloc: Global,
         making: Making<'a>,
         first: &'a Expr,
         last: &'a Expr,
         step: &'a Option<Expr>,
     ) -> Result<Control<'a>, LuaError>
-        ensures { Turns result self.new (begun (making_of making.entry) [] (bounds_parts (node_of first.now) (node_of last.now) (option_map node_of step.now)) (waiting self.old) self.old.calls (state_in self.old) self.old.units) }
+        ensures { Comes result self.new (begun (making_of making.entry) [] (bounds_parts (node_of first.now) (node_of last.now) (option_map node_of step.now)) (waiting self.old) self.old.calls (state_in self.old) self.old.units) }
     {
         match step {
-            Some(by) => self.begin(making, first, Parts::Two(last, by)),
-            None => self.begin(making, first, Parts::One(last)),
+            Some(by) => self.begin(alloc, making, first, Parts::Two(last, by)),
+            None => self.begin(alloc, making, first, Parts::One(last)),
         }
     }
 
     // Begins a statement that evaluates or goes into blocks; its unit is paid.
+    #[tactic(auto, using(crate::proofs::Reaching::at_once))]
     fn begin_others(
         &mut self,
         alloc: Global,
@@ -85,7 +87,7 @@ impl<'a> Machine<'a> {
         cost: u64,
     ) -> Result<Control<'a>, LuaError>
         requires { self.old.units ≡ cost + 1 }
-        ensures { Turns result self.new (statement_begun (statement_of statement.now) (waiting self.old) self.old.calls (state_in self.old) cost) }
+        ensures { Comes result self.new (statement_begun (statement_of statement.now) (waiting self.old) self.old.calls (state_in self.old) cost) }
     {
         match statement {
             LuaStatement::Local { name, value } => self.local(alloc, name.bytes(), value, cost),
@@ -98,13 +100,14 @@ impl<'a> Machine<'a> {
                 key,
                 value,
                 line,
-            } => self.begin(Making::Puts(*line), table, Parts::Two(key, value)),
+            } => self.begin(alloc, Making::Puts(*line), table, Parts::Two(key, value)),
             LuaStatement::SetMember {
                 table,
                 name,
                 value,
                 line,
             } => self.begin(
+                alloc,
                 Making::PutsMember(name.bytes(), *line),
                 table,
                 Parts::One(value),
@@ -126,7 +129,13 @@ impl<'a> Machine<'a> {
                 step,
                 body,
                 line,
-            } => self.bounds(Making::Loops(name.bytes(), body, *line), first, last, step),
+            } => self.bounds(
+                alloc,
+                Making::Loops(name.bytes(), body, *line),
+                first,
+                last,
+                step,
+            ),
             LuaStatement::Do { body } => self.run_inner(body),
             LuaStatement::Break => Ok(Control::Breaks),
             LuaStatement::Return { value } => self.give_back(value, cost),
@@ -134,12 +143,13 @@ impl<'a> Machine<'a> {
     }
 
     /// Begins a statement: its unit is paid, and its first part is evaluated.
+    #[tactic(auto, using(crate::proofs::Reaching::at_once))]
     pub fn execute(
         &mut self,
         alloc: Global,
         statement: &'a LuaStatement,
     ) -> Result<Control<'a>, LuaError>
-        ensures { Turns result self.new (statement_begun (statement_of statement.now) (waiting self.old) self.old.calls (state_in self.old) self.old.units) }
+        ensures { Comes result self.new (statement_begun (statement_of statement.now) (waiting self.old) self.old.calls (state_in self.old) self.old.units) }
     {
         let cost = self.units.spent();
         self.units.pay()?;

@@ -8,8 +8,8 @@ ghost use Rattle.lua_machine.specs.Turn.{back_at, resumed, statement_begun, turn
 ghost use Rattle.lua_frames.specs.Frames.{around, frame_of, frames_of, waits_in};
 ghost use Rattle.lua_frames.specs.Machines.{frames_with, machine_of, state_in, store_in, waiting};
 ghost use Rattle.lua_frames.specs.Parts.{function_in};
-ghost use Rattle.lua_frames.specs.Steps.{Steps};
-ghost use Rattle.lua_frames.specs.Turns.{Turns};
+ghost use Rattle.lua_frames.specs.Steps.{Arrives};
+ghost use Rattle.lua_frames.specs.Turns.{Comes, Turns};
 ghost use Rattle.lua_frames.specs.Ways.{beside_way, way_in};
 
 use crate::control::Control;
@@ -40,7 +40,7 @@ fn pop_frame<'a>(frames: &mut Vec<Frame<'a>>) -> Option<Frame<'a>>
 // A turn that came to a place of the machine.
 #[inline(always)]
 fn next<'a>(control: Result<Control<'a>, LuaError>) -> Result<Step<'a>, LuaError>
-    ensures { (now : Machine) (wanted : Turned) → Turns control.entry now wanted → Steps result now wanted }
+    ensures { (now : Machine) (wanted : Turned) → Comes control.entry now wanted → Arrives result now wanted }
 {
     match control {
         Ok(control) => Ok(Step::Next(control)),
@@ -51,6 +51,7 @@ fn next<'a>(control: Result<Control<'a>, LuaError>) -> Result<Step<'a>, LuaError
 impl<'a> Machine<'a> {
     // Goes on with a frame that was the innermost one.
     #[inline(always)]
+    #[tactic(auto, using(crate::proofs::Reaching::at_once))]
     fn resume(
         &mut self,
         alloc: Global,
@@ -58,7 +59,7 @@ impl<'a> Machine<'a> {
         frame: Frame<'a>,
         way: Way,
     ) -> Result<Control<'a>, LuaError>
-        ensures { Turns result self.new (resumed (function_in main.entry) (frame_of frame.entry (waits_in (beside_way way (store_in self.old)))) (way_in way (store_in self.old)) (frames_of (reverse self.old.frames.items) (around frame.entry (waits_in (beside_way way (store_in self.old))))) self.old.calls (state_in self.old) self.old.units) }
+        ensures { Comes result self.new (resumed (function_in main.entry) (frame_of frame.entry (waits_in (beside_way way (store_in self.old)))) (way_in way (store_in self.old)) (frames_of (reverse self.old.frames.items) (around frame.entry (waits_in (beside_way way (store_in self.old))))) self.old.calls (state_in self.old) self.old.units) }
     {
         match frame {
             Frame::Part(making, count, others) => self.part(alloc, way, making, count, others),
@@ -89,7 +90,7 @@ impl<'a> Machine<'a> {
     // Goes on with the innermost frame, or ends where none waits.
     #[inline(always)]
     fn back(&mut self, alloc: Global, main: Function<'a>, way: Way) -> Result<Step<'a>, LuaError>
-        ensures { Steps result self.new (back_at (function_in main.entry) (frames_with self.old (beside_way way (store_in self.old))) (way_in way (store_in self.old)) self.old.calls (state_in self.old) self.old.units) }
+        ensures { Arrives result self.new (back_at (function_in main.entry) (frames_with self.old (beside_way way (store_in self.old))) (way_in way (store_in self.old)) self.old.calls (state_in self.old) self.old.units) }
     {
         match pop_frame(&mut self.frames) {
             Some(frame) => next(self.resume(alloc, main, frame, way)),
@@ -115,7 +116,7 @@ impl<'a> Machine<'a> {
         main: Function<'a>,
         control: Control<'a>,
     ) -> Result<Step<'a>, LuaError>
-        ensures { Steps result self.new (turn (items_of functions.now) (function_in main.entry) (machine_of control.entry self.old)) }
+        ensures { Arrives result self.new (turn (items_of functions.now) (function_in main.entry) (machine_of control.entry self.old)) }
     {
         match control {
             Control::Evaluate(expr) => next(self.evaluate(alloc, functions, expr)),

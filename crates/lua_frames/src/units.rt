@@ -1,7 +1,7 @@
 //! The units that are paid.
 ghost use Rattle.std.specs.Prelude.{◌≡◌, ◌+◌, ◌<◌, ◌≤◌, OnOk, OnErr};
 ghost use Rattle.lua_machine.specs.Answer.{most_units};
-ghost use Rattle.lua_frames.specs.Units.{Spends};
+ghost use Rattle.lua_frames.specs.Units.{Spends, SpendsAll};
 
 use lua_machine::LuaError;
 use std::marker::Model;
@@ -40,6 +40,17 @@ impl Units {
             return Err(LuaError::Budget);
         }
         self.spent += 1;
+        Ok(())
+    }
+
+    /// So many more.
+    pub fn pay_all(&mut self, count: u64) -> Result<(), LuaError>
+        ensures { SpendsAll result count self.old self.new }
+    {
+        if count > 500_000 - self.spent {
+            return Err(LuaError::Budget);
+        }
+        self.spent += count;
         Ok(())
     }
 

@@ -1,0 +1,261 @@
+-- Parts that are taken where they stand.
+use Rattle.std.proofs.Common.{◌≡◌, ◌∙◌, ℕ, ◌+◌, ◌<◌, List, [], ◌∷◌, ◌++◌, Bool, true, false, Option, Some, None, refl, sym, ap, subst, Result, Ok, Err, arith}
+use Rattle.lua_machine.specs.Answer.{most_units}
+use Rattle.lua_machine.specs.Functions.{Function}
+use Rattle.lua_machine.specs.Machine as machine
+use Rattle.lua_machine.specs.Machine.{Turned, Part}
+use Rattle.lua_machine.specs.State.{State, Done, gives}
+use Rattle.lua_machine.specs.Tree as t
+use Rattle.lua_machine.specs.Tree.{ItemNode, Node, Nodes, none, ◌and◌}
+use Rattle.lua_machine.specs.Turn.{after_turns, back, begun, evaluating, expression_begun, made}
+use Rattle.lua_machine.specs.Value.{Fault, LuaValue}
+use Rattle.lua_machine.specs.declared.error.LuaError.{LuaError}
+use Rattle.lua_machine.specs.declared.error.LuaError.TheVariants as e
+use Rattle.lua_state.specs.Store.{Refuses, Store, in_state, parts, popped, pushed, with_done, without}
+use Rattle.lua_frames.specs.declared.frame.Frame.{Frame}
+use Rattle.lua_frames.specs.declared.machine.Machine as held
+use Rattle.lua_frames.specs.Frames.{frames_of, waits_in}
+use Rattle.lua_frames.specs.Simple.{Gives, Pushes, Puts, PutsBoth, simple_value}
+use Rattle.lua_frames.specs.Turns.{Comes, Reaches, Stops}
+use Rattle.lua_frames.proofs.Backs.{stopped_back}
+use Rattle.lua_frames.proofs.Parted.{one_part_more, without_one_more}
+use Rattle.lua_frames.proofs.Reaching.{none_after, reaches_itself, reaches_through}
+
+some_is : {T : Type 0} {a b : T} → Some a ≡ Some b → a ≡ b
+some_is same = cc
+
+none_isnt : {T : Type 0} {a : T} {A : Type 0} → (let x : Option T = None in x) ≡ Some a → A
+none_isnt same = cc
+
+ok_is : {T : Type 0} {a b : T} → (let x : Result T Fault = Ok a in x) ≡ Ok b → a ≡ b
+ok_is same = cc
+
+err_isnt_ok : {T : Type 0} {a : T} {b : Fault} {A : Type 0} → Err b ≡ Ok a → A
+err_isnt_ok same = cc
+
+-- ---- the turns of a simple expression
+
+taken : (node : Node) (frames : List machine.Frame) (calls : ℕ) (state : State) (cost : ℕ) (value : LuaValue) → simple_value node state ≡ Some value →
+    (chunk : List ItemNode) (main : Function) → after_turns chunk main 1 (evaluating node frames calls state cost) ≡ back (gives value state) frames calls (cost + 1)
+taken t.Nil frames calls state cost value is chunk main = ap (λ v. back (gives v state) frames calls (cost + 1)) (some_is is)
+taken t.True frames calls state cost value is chunk main = ap (λ v. back (gives v state) frames calls (cost + 1)) (some_is is)
+taken t.False frames calls state cost value is chunk main = ap (λ v. back (gives v state) frames calls (cost + 1)) (some_is is)
+taken (t.Number n) frames calls state cost value is chunk main = ap (λ v. back (gives v state) frames calls (cost + 1)) (some_is is)
+taken (t.Name called) frames calls state cost value is chunk main = ap (λ v. back (gives v state) frames calls (cost + 1)) (some_is is)
+taken (t.Str bytes line) frames calls state cost value is chunk main = none_isnt is
+taken (t.Index table key line) frames calls state cost value is chunk main = none_isnt is
+taken (t.Member table called line) frames calls state cost value is chunk main = none_isnt is
+taken (t.Call called args line) frames calls state cost value is chunk main = none_isnt is
+taken (t.MathCall called args line) frames calls state cost value is chunk main = none_isnt is
+taken (t.TableCall called args line) frames calls state cost value is chunk main = none_isnt is
+taken (t.Construct _) frames calls state cost value is chunk main = none_isnt is
+taken (t.Unary op of line) frames calls state cost value is chunk main = none_isnt is
+taken (t.Binary op left right line) frames calls state cost value is chunk main = none_isnt is
+
+one_turn : (node : Node) (frames : List machine.Frame) (calls : ℕ) (state : State) (cost : ℕ) (value : LuaValue) → simple_value node state ≡ Some value →
+    Reaches (evaluating node frames calls state cost) (back (gives value state) frames calls (cost + 1))
+one_turn node frames calls state cost value is = record { turns = 1; after = taken node frames calls state cost value is }
+
+-- a value that comes back to the parts behind it
+resumed_part : (making : machine.Making) (values : List LuaValue) (others : Nodes) (frames : List machine.Frame) (calls : ℕ) (state : State) (cost : ℕ) (value : LuaValue) →
+    Reaches (back (gives value state) (Part making values others ∷ frames) calls cost) (begun making (values ++ value ∷ []) others frames calls state cost)
+resumed_part making values others frames calls state cost value = record { turns = 1; after = λ chunk main. none_after chunk main (begun making (values ++ value ∷ []) others frames calls state cost) }
+
+-- a simple expression gives its value
+pub simple_gives : (result : Result Bool LuaError) (node : Node) (old new : Store) (cost now : ℕ) → Puts result (simple_value node old.state) old cost new now → Gives result node old cost new now
+simple_gives result node old new cost now puts = by result (simple_value node old.state) refl puts
+  where
+    by : (result : Result Bool LuaError) (of : Option LuaValue) → simple_value node old.state ≡ of → Puts result of old cost new now → Gives result node old cost new now
+    by (Ok true) None is puts = absurd puts
+    by (Ok true) (Some value) is puts = (
+      value,
+      old.state,
+      puts.0,
+      λ frames calls. subst (λ n. Reaches (evaluating node frames calls old.state cost) (back (gives value old.state) frames calls n)) (sym puts.1) (one_turn node frames calls old.state cost value is),
+    )
+    by (Ok false) of is puts = puts
+    by (Err e.NoMemory) of is puts = λ frames calls. (evaluating node frames calls old.state cost, reaches_itself (evaluating node frames calls old.state cost), tt)
+    by (Err e.Budget) None is puts = absurd puts
+    by (Err e.Budget) (Some value) is puts = λ frames calls. (back (gives value old.state) frames calls (cost + 1), one_turn node frames calls old.state cost value is, puts)
+    by (Err (e.TypeFault line)) of is puts = absurd puts
+    by (Err (e.UnknownName line)) of is puts = absurd puts
+    by (Err (e.Inexact line)) of is puts = absurd puts
+    by (Err (e.OutOfRange line)) of is puts = absurd puts
+    by (Err (e.LongString line)) of is puts = absurd puts
+    by (Err (e.TooDeepCalls line)) of is puts = absurd puts
+
+-- it was put, and then paid
+pub pushed_puts : (of : Option LuaValue) (old new : Store) (cost now : ℕ) → Pushes (Ok true) of old new → now ≡ cost + 1 → Puts (Ok true) of old cost new now
+pushed_puts None old new cost now puts is = absurd puts
+pushed_puts (Some value) old new cost now puts is = (puts, is)
+
+pub pushed_stops : (of : Option LuaValue) (old new : Store) (cost now : ℕ) (why : LuaError) → Pushes (Ok true) of old new → (why ≡ e.Budget) × (most_units < cost + 1) → Puts (Err why) of old cost new now
+pushed_stops None old new cost now why puts is = absurd puts
+pushed_stops (Some value) old new cost now why puts is = subst (λ w. Puts (Err w) (Some value) old cost new now) (sym is.0) is.1
+
+-- ---- an operation on two simple parts
+
+-- how it is begun
+abbrev pub Begins : Node → machine.Making → Node → Node → Type 0
+Begins node making left right =
+    (chunk : List ItemNode) (frames : List machine.Frame) (calls : ℕ) (state : State) (cost : ℕ) → expression_begun chunk node frames calls state cost ≡ begun making [] (left and right and none) frames calls state (cost + 1)
+
+-- what is made of its parts
+abbrev pub Makes : machine.Making → (List LuaValue → State → Done LuaValue) → Type 0
+Makes making done = (values : List LuaValue) (frames : List machine.Frame) (calls : ℕ) (state : State) (cost : ℕ) → made making values frames calls state cost ≡ back (done values state) frames calls cost
+
+begun_two : (node : Node) (making : machine.Making) (left right : Node) → Begins node making left right → (frames : List machine.Frame) (calls : ℕ) (state : State) (cost : ℕ) →
+    Reaches (evaluating node frames calls state cost) (begun making [] (left and right and none) frames calls state (cost + 1))
+begun_two node making left right begins frames calls state cost = record {
+  turns = 1;
+  after = λ chunk main. none_after chunk main (expression_begun chunk node frames calls state cost) ∙ begins chunk frames calls state cost;
+}
+
+at_last : (node : Node) (making : machine.Making) (left right : Node) → Begins node making left right → (frames : List machine.Frame) (calls : ℕ) (state : State) (cost : ℕ) (a b : LuaValue) →
+    simple_value left state ≡ Some a → simple_value right state ≡ Some b → Reaches (evaluating node frames calls state cost) (back (gives b state) (Part making (a ∷ []) none ∷ frames) calls (cost + 1 + 1 + 1))
+at_last node making left right begins frames calls state cost a b left_is right_is =
+    reaches_through (begun_two node making left right begins frames calls state cost)
+    (reaches_through (one_turn left (Part making [] (right and none) ∷ frames) calls state (cost + 1) a left_is)
+    (reaches_through (resumed_part making [] (right and none) frames calls state (cost + 1 + 1) a)
+    (one_turn right (Part making (a ∷ []) none ∷ frames) calls state (cost + 1 + 1) b right_is)))
+
+at_done : (node : Node) (making : machine.Making) (left right : Node) (done : List LuaValue → State → Done LuaValue) → Begins node making left right → Makes making done →
+    (frames : List machine.Frame) (calls : ℕ) (state : State) (cost : ℕ) (a b : LuaValue) → simple_value left state ≡ Some a → simple_value right state ≡ Some b →
+    Reaches (evaluating node frames calls state cost) (back (done (a ∷ b ∷ []) state) frames calls (cost + 3))
+at_done node making left right done begins makes frames calls state cost a b left_is right_is =
+    let three : cost + 1 + 1 + 1 ≡ cost + 3 = omega arith in
+    subst (λ n. Reaches (evaluating node frames calls state cost) (back (done (a ∷ b ∷ []) state) frames calls n)) three
+    (subst (λ t. Reaches (evaluating node frames calls state cost) t) (makes (a ∷ b ∷ []) frames calls state (cost + 1 + 1 + 1))
+    (reaches_through (at_last node making left right begins frames calls state cost a b left_is right_is) (resumed_part making (a ∷ []) none frames calls state (cost + 1 + 1 + 1) b)))
+
+-- both parts were put, and what is made of them too
+pub both_give : (node : Node) (making : machine.Making) (left right : Node) (done : List LuaValue → State → Done LuaValue) → Begins node making left right → Makes making done → (old mid new : Store) (cost now : ℕ) →
+    PutsBoth (Ok true) (simple_value left old.state) (simple_value right old.state) old cost mid now → with_done (done (parts 2 mid) mid.state) (without 2 mid) ≡ Ok new → Gives (Ok true) node old cost new now
+both_give node making left right done begins makes old mid new cost now both is = by (simple_value left old.state) refl (simple_value right old.state) refl both
+  where
+    given : (a b : LuaValue) → simple_value left old.state ≡ Some a → simple_value right old.state ≡ Some b → (outcome : Result LuaValue Fault) (state : State) → record { outcome = outcome; state = state } ≡ done (a ∷ b ∷ []) old.state →
+        with_done (record { outcome = outcome; state = state }) old ≡ Ok new → now ≡ cost + 3 → Gives (Ok true) node old cost new now
+    given a b left_is right_is (Ok value) state same made_is spent = (
+      value,
+      state,
+      sym (ok_is made_is),
+      λ frames calls. subst (λ n. Reaches (evaluating node frames calls old.state cost) (back (gives value state) frames calls n)) (sym spent)
+          (subst (λ d. Reaches (evaluating node frames calls old.state cost) (back d frames calls (cost + 3))) (sym same) (at_done node making left right done begins makes frames calls old.state cost a b left_is right_is)),
+    )
+    given a b left_is right_is (Err why) state same made_is spent = err_isnt_ok made_is
+
+    by : (l : Option LuaValue) → simple_value left old.state ≡ l → (r : Option LuaValue) → simple_value right old.state ≡ r → PutsBoth (Ok true) l r old cost mid now → Gives (Ok true) node old cost new now
+    by None left_is r right_is puts = absurd puts
+    by (Some a) left_is None right_is puts = absurd puts
+    by (Some a) left_is (Some b) right_is puts =
+        let of = done (a ∷ b ∷ []) old.state in
+        given a b left_is right_is of.outcome of.state refl (subst (λ (s : Store). with_done (done (parts 2 s) s.state) (without 2 s) ≡ Ok new) puts.0 is) puts.1
+
+-- both parts were put, and there is a fault in what is made of them
+pub both_fault : (node : Node) (making : machine.Making) (left right : Node) (done : List LuaValue → State → Done LuaValue) → Begins node making left right → Makes making done → (old mid new : Store) (cost now : ℕ) (why : LuaError) →
+    PutsBoth (Ok true) (simple_value left old.state) (simple_value right old.state) old cost mid now → Refuses why (with_done (done (parts 2 mid) mid.state) (without 2 mid)) → Gives (Err why) node old cost new now
+both_fault node making left right done begins makes old mid new cost now why both is = by (simple_value left old.state) refl (simple_value right old.state) refl both
+  where
+    by : (l : Option LuaValue) → simple_value left old.state ≡ l → (r : Option LuaValue) → simple_value right old.state ≡ r → PutsBoth (Ok true) l r old cost mid now → Gives (Err why) node old cost new now
+    by None left_is r right_is puts = absurd puts
+    by (Some a) left_is None right_is puts = absurd puts
+    by (Some a) left_is (Some b) right_is puts =
+        let of = done (a ∷ b ∷ []) old.state in
+        let refuses : Refuses why (with_done of old) = subst (λ (s : Store). Refuses why (with_done (done (parts 2 s) s.state) (without 2 s))) puts.0 is in
+        λ frames calls. (
+          back of frames calls (cost + 3),
+          at_done node making left right done begins makes frames calls old.state cost a b left_is right_is,
+          subst (λ n. Stops why n (back of frames calls (cost + 3))) (sym puts.1) (stopped_back why of.outcome of.state old frames calls (cost + 3) refuses),
+        )
+
+-- a unit of theirs couldn't be paid
+pub both_stop : (node : Node) (making : machine.Making) (left right : Node) → Begins node making left right → (old mid new : Store) (cost now : ℕ) (why : LuaError) →
+    PutsBoth (Err why) (simple_value left old.state) (simple_value right old.state) old cost mid now → Gives (Err why) node old cost new now
+both_stop node making left right begins old mid new cost now why both = by why (simple_value left old.state) refl (simple_value right old.state) refl both
+  where
+    stays : (frames : List machine.Frame) (calls : ℕ) → Reaches (evaluating node frames calls old.state cost) (evaluating node frames calls old.state cost)
+    stays frames calls = reaches_itself (evaluating node frames calls old.state cost)
+
+    more : most_units < cost + 3 → most_units < cost + 1 + 1 + 1
+    more spent = omega (arith, spent)
+
+    by : (why : LuaError) (l : Option LuaValue) → simple_value left old.state ≡ l → (r : Option LuaValue) → simple_value right old.state ≡ r → PutsBoth (Err why) l r old cost mid now → Gives (Err why) node old cost new now
+    by e.NoMemory l left_is r right_is puts = λ frames calls. (evaluating node frames calls old.state cost, stays frames calls, tt)
+    by e.Budget None left_is r right_is puts = absurd puts
+    by e.Budget (Some a) left_is None right_is puts = absurd puts
+    by e.Budget (Some a) left_is (Some b) right_is puts = λ frames calls. (
+      back (gives b old.state) (Part making (a ∷ []) none ∷ frames) calls (cost + 1 + 1 + 1),
+      at_last node making left right begins frames calls old.state cost a b left_is right_is,
+      more puts,
+    )
+    by (e.TypeFault line) l left_is r right_is puts = absurd puts
+    by (e.UnknownName line) l left_is r right_is puts = absurd puts
+    by (e.Inexact line) l left_is r right_is puts = absurd puts
+    by (e.OutOfRange line) l left_is r right_is puts = absurd puts
+    by (e.LongString line) l left_is r right_is puts = absurd puts
+    by (e.TooDeepCalls line) l left_is r right_is puts = absurd puts
+
+-- the left part is taken away again
+pub left_again : (of : Option LuaValue) (old mid right new : Store) → Pushes (Ok true) of old mid → right ≡ mid → new ≡ popped right → new ≡ old
+left_again None old mid right new puts same is = absurd puts
+left_again (Some value) old mid right new puts same is = is ∙ ap popped same ∙ ap popped puts
+
+-- both were put, one after the other, and then paid
+pub both_put : (left right : Node) (old mid new : Store) (cost now : ℕ) → Pushes (Ok true) (simple_value left old.state) old mid → Pushes (Ok true) (simple_value right mid.state) mid new → now ≡ cost + 3 →
+    PutsBoth (Ok true) (simple_value left old.state) (simple_value right old.state) old cost new now
+both_put left right old mid new cost now left_puts right_puts spent = by (simple_value left old.state) left_puts
+  where
+    right_by : (a : LuaValue) (r : Option LuaValue) → mid ≡ pushed a old → Pushes (Ok true) r mid new → PutsBoth (Ok true) (Some a) r old cost new now
+    right_by a None is puts = absurd puts
+    right_by a (Some b) is puts = (puts ∙ ap (pushed b) is, spent)
+
+    by : (l : Option LuaValue) → Pushes (Ok true) l old mid → PutsBoth (Ok true) l (simple_value right old.state) old cost new now
+    by None puts = absurd puts
+    by (Some a) puts = right_by a (simple_value right old.state) puts (subst (λ (s : Store). Pushes (Ok true) (simple_value right s.state) mid new) puts right_puts)
+
+pub both_refused : (left right : Node) (old mid new : Store) (cost now : ℕ) (why : LuaError) → Pushes (Ok true) (simple_value left old.state) old mid → Pushes (Ok true) (simple_value right mid.state) mid new →
+    (why ≡ e.Budget) × (most_units < cost + 3) → PutsBoth (Err why) (simple_value left old.state) (simple_value right old.state) old cost new now
+both_refused left right old mid new cost now why left_puts right_puts spent = by (simple_value left old.state) left_puts
+  where
+    right_by : (a : LuaValue) (r : Option LuaValue) → Pushes (Ok true) r mid new → PutsBoth (Err why) (Some a) r old cost new now
+    right_by a None puts = absurd puts
+    right_by a (Some b) puts = subst (λ w. PutsBoth (Err w) (Some a) (Some b) old cost new now) (sym spent.0) spent.1
+
+    by : (l : Option LuaValue) → Pushes (Ok true) l old mid → PutsBoth (Err why) l (simple_value right old.state) old cost new now
+    by None puts = absurd puts
+    by (Some a) puts = right_by a (simple_value right old.state) (subst (λ (s : Store). Pushes (Ok true) (simple_value right s.state) mid new) puts right_puts)
+
+-- ---- as a part
+
+-- frames that wait without so many values
+abbrev pub frames_without : List Frame → ℕ → Store → List machine.Frame
+frames_without frames count store = frames_of frames (waits_in (without count store))
+
+-- the parts that are left
+abbrev pub parts_left : machine.Making → ℕ → Nodes → List Frame → ℕ → Store → ℕ → Turned
+parts_left making count others frames calls store cost = begun making (parts count store) others (frames_without frames count store) calls store.state cost
+
+pub part_given : (making : machine.Making) (count : ℕ) (node : Node) (others : Nodes) (frames : List Frame) (calls : ℕ) (old new : Store) (cost now : ℕ) → Gives (Ok true) node old cost new now →
+    Reaches (parts_left making count (node and others) frames calls old cost) (parts_left making (count + 1) others frames calls new now)
+part_given making count node others frames calls old new cost now (value, state, is, reaches) =
+    let from = parts_left making count (node and others) frames calls old cost in
+    let put = in_state state old in
+    let values = one_part_more count value put in
+    let rest = ap (λ s. frames_of frames (waits_in s)) (without_one_more count value put) in
+    let reached : Reaches from (begun making (parts count old ++ value ∷ []) others (frames_without frames count old) calls state now) =
+    reaches_through (reaches (Part making (parts count old) others ∷ frames_without frames count old) calls) (resumed_part making (parts count old) others (frames_without frames count old) calls state now value) in
+    let same : begun making (parts count old ++ value ∷ []) others (frames_without frames count old) calls state now ≡ parts_left making (count + 1) others frames calls (pushed value put) now =
+    ap (λ vs. begun making vs others (frames_without frames count old) calls state now) (sym values) ∙ ap (λ fs. begun making (parts (count + 1) (pushed value put)) others fs calls state now) (sym rest) in
+    subst (λ s. Reaches from (parts_left making (count + 1) others frames calls s now)) (sym is) (subst (λ t. Reaches from t) same reached)
+
+-- where turns were stopped in it
+pub part_stopped : (making : machine.Making) (count : ℕ) (node : Node) (others : Nodes) (frames : List Frame) (calls : ℕ) (old new : Store) (cost : ℕ) (why : LuaError) (now : held.Machine) →
+    Gives (Err why) node old cost new now.units → Comes (Err why) now (parts_left making count (node and others) frames calls old cost)
+part_stopped making count node others frames calls old new cost why now stops =
+    let stop = stops (Part making (parts count old) others ∷ frames_without frames count old) calls in
+    record { to = stop.0; reaches = stop.1; turns = stop.2 }
+
+-- and where nothing was done
+pub part_stays : (making : machine.Making) (count : ℕ) (nodes : Nodes) (frames : List Frame) (calls : ℕ) (old new : Store) (cost now : ℕ) → (new ≡ old) × (now ≡ cost) →
+    parts_left making count nodes frames calls old cost ≡ parts_left making count nodes frames calls new now
+part_stays making count nodes frames calls old new cost now same = ap (λ s. parts_left making count nodes frames calls s cost) (sym same.0) ∙ ap (parts_left making count nodes frames calls new) (sym same.1)
