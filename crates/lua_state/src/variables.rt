@@ -1,9 +1,7 @@
-//! Variables, and how a name is looked for among them.
-ghost use Rattle.std.specs.Prelude.{◌≡◌, [], OnErr, OnOk, reverse};
-ghost use Rattle.std.specs.Option.{is_some};
-ghost use Rattle.lua_state.specs.Variables.{FoundIn, value_under, with_global, with_value};
+//! Variables, and the globals by their names.
+ghost use Rattle.std.specs.Prelude.{◌≡◌, [], OnErr, OnOk};
+ghost use Rattle.lua_state.specs.Variables.{value_under, with_global};
 
-use crate::stack::Stack;
 use indexmap::IndexMap;
 use lua_store::SmallValue;
 use std::alloc::Global;
@@ -15,49 +13,6 @@ use tis_base::NoMemory;
 pub struct Variable {
     pub name: usize,
     pub value: SmallValue,
-}
-
-/// Where the last variable of a name stands.
-pub(crate) fn last_place(variables: &[Variable], name: usize) -> Option<usize>
-    ensures { FoundIn reverse name variables.now result }
-{
-    let mut at = variables.len();
-    while at > 0 {
-        at -= 1;
-        if variables[at].name == name {
-            return Some(at);
-        }
-    }
-    None
-}
-
-impl Stack<Variable> {
-    /// The value of the innermost variable of a name, where there is one.
-    pub(crate) fn value(&self, name: usize) -> Option<SmallValue>
-        ensures { result ≡ value_under name self.now }
-    {
-        match last_place(self.items.as_slice(), name) {
-            Some(at) => Some(self.items[at].value),
-            None => None,
-        }
-    }
-
-    /// Gives the innermost variable of a name another value, and tells whether there is one.
-    pub(crate) fn assign(&mut self, name: usize, value: &SmallValue) -> bool
-        ensures found { result ≡ is_some (value_under name self.old) }
-        ensures assigned { self.new ≡ with_value name value.now self.old }
-    {
-        match last_place(self.items.as_slice(), name) {
-            Some(at) => {
-                self.items[at] = Variable {
-                    name,
-                    value: *value,
-                };
-                true
-            }
-            None => false,
-        }
-    }
 }
 
 /// Variables in the order in which they came, each found by a hash.
