@@ -1,5 +1,5 @@
 -- Lists that are read from their end.
-use Rattle.std.proofs.Common.{◌≡◌, ℕ, suc, ◌-◌, ◌<◌, List, [], ◌∷◌, ◌++◌, length, get_or, set, take, drop, reverse, refl, sym, ap, ◌∙◌, arith, append_assoc}
+use Rattle.std.proofs.Common.{◌≡◌, ℕ, suc, ◌-◌, ◌<◌, List, [], ◌∷◌, ◌++◌, length, get_or, set, take, drop, reverse, sym, ap, ◌∙◌, arith, append_assoc}
 use Rattle.std.specs.Prelude.{min}
 use Rattle.std.proofs.lemmas.List.{reverse-append, length-reverse, take-append-drop, length-drop, reverse-reverse, drop_min, set_at, set_split}
 use Rattle.std.proofs.Math.Seq.{drop-cons, drop-append_seam}
@@ -7,10 +7,6 @@ use Rattle.std.proofs.Math.Seq.{drop-cons, drop-append_seam}
 -- what is behind a place in a list comes first in the reversed one
 pub reverse_seam : {T : Type 0} (before : List T) (x : T) (behind : List T) → reverse (before ++ x ∷ behind) ≡ reverse behind ++ x ∷ reverse before
 reverse_seam before x behind = reverse-append before (x ∷ behind) ∙ ap (λ all. all ++ reverse before) (reverse-append (x ∷ []) behind) ∙ append_assoc (reverse behind) (x ∷ []) (reverse before)
-
-pub got_seam : {T : Type 0} (before : List T) (x other : T) (behind : List T) → get_or (before ++ x ∷ behind) (length before) other ≡ x
-got_seam [] x other behind = refl
-got_seam (y ∷ before) x other behind = got_seam before x other behind
 
 -- a list is what stands before a place, what is there, and what stands behind it
 pub parted : {T : Type 0} (all : List T) (at : ℕ) (other : T) → at < length all → all ≡ take at all ++ get_or all at other ∷ drop (suc at) all

@@ -11,7 +11,7 @@ use Rattle.lua_state.specs.Locals.{above, lowest}
 use Rattle.lua_state.proofs.Finding.{none_here}
 use Rattle.lua_state.specs.Variables.{value_under, with_value}
 
-true_isnt_false : {A : Type 0} → true ≡ false → A
+pub true_isnt_false : {A : Type 0} → true ≡ false → A
 true_isnt_false e = cc
 
 -- a place is one of those that there are
@@ -30,14 +30,14 @@ pub record StandsAt (name : ℕ) (all upper rest : List Variable) (at : ℕ) : T
   pub assigned : (value : SmallValue) → set all at (record { name = name; value = value }) ≡ with_value name value upper ++ rest
 
 module _ (name : ℕ) (v : Variable) (all upper rest : List Variable) where
-  here : all ≡ upper ++ rest → (v.name == name) ≡ true → StandsAt name (v ∷ all) (v ∷ upper) rest 0
+  pub here : all ≡ upper ++ rest → (v.name == name) ≡ true → StandsAt name (v ∷ all) (v ∷ upper) rest 0
   here is e = record {
     named = λ other. (Decides-eqb _ _).0 e;
     valued = λ other. ap (λ b. cond b (Some v.value) (value_under name upper)) e;
     assigned = λ value. ap (λ (vs : List Variable). record { name = name; value = value } ∷ vs) is ∙ sym (ap (λ b. cond b (record { name = name; value = value } ∷ upper) (v ∷ with_value name value upper) ++ rest) e);
   }
 
-  deeper : (at : ℕ) → (v.name == name) ≡ false → StandsAt name all upper rest at → StandsAt name (v ∷ all) (v ∷ upper) rest (suc at)
+  pub deeper : (at : ℕ) → (v.name == name) ≡ false → StandsAt name all upper rest at → StandsAt name (v ∷ all) (v ∷ upper) rest (suc at)
   deeper at e is = record {
     named = is.named;
     valued = λ other. ap (λ b. cond b (Some v.value) (value_under name upper)) e ∙ is.valued other;

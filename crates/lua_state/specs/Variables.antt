@@ -21,10 +21,6 @@ with_value name value (first ∷ more) = if first.name == name then record { nam
 abbrev pub with_global : ℕ → SmallValue → List Variable → List Variable
 with_global name value variables = if is_some (value_under name variables) then with_value name value variables else variables ++ record { name = name; value = value } ∷ []
 
--- a name with its value
-abbrev pub global_of : ℕ × SmallValue → Variable
-global_of entry = record { name = entry.0; value = entry.1 }
-
 -- what it stands for
 abbrev pub variable_of : Texts → Variable → List ℕ × LuaValue
 variable_of texts variable = (get_or texts variable.name [], meant texts variable.value)

@@ -7,6 +7,7 @@ ghost use Rattle.lua_state.specs.Stacks.{below};
 ghost use Rattle.lua_state.specs.Variables.{value_under, with_value};
 ghost use Rattle.lua_state.specs.declared.variables.Variable.{Variable};
 
+use crate::by_name::{entry, reach};
 use crate::stack::Stack;
 use crate::variables::Variable;
 use lua_store::SmallValue;
@@ -42,17 +43,6 @@ impl Model for Bindings {
     ghost invariant = { λ b. ArePlaced b.stack b.innermost.items };
 }
 
-// Makes a table long enough for a name.
-fn reach(table: &mut Vec<usize>, name: usize) -> Result<(), NoMemory>
-    ensures inside { OnOk result (name < length table.new.items) }
-    ensures same { (n : ℕ) → get_or table.new.items n 0 ≡ get_or table.old.items n 0 }
-{
-    while table.len() <= name {
-        table.push(0)?;
-    }
-    Ok(())
-}
-
 impl Bindings {
     pub(crate) fn new(alloc: Global) -> Bindings
         ensures { result ≡ [] }
@@ -75,11 +65,7 @@ impl Bindings {
     fn place(&self, name: usize) -> usize
         ensures { result ≡ place_of name (names self.now) }
     {
-        if name < self.innermost.len() {
-            self.innermost[name]
-        } else {
-            0
-        }
+        entry(self.innermost.as_slice(), name)
     }
 
     /// The value of the innermost of a name, if it stands above the lowest so many.

@@ -7,9 +7,9 @@ ghost use Rattle.lua_state.specs.Held.{IsSound, state_of, store_of};
 ghost use Rattle.lua_state.specs.Store.{Answers, in_state, popped, pushed, with_made};
 
 use crate::bounds::LoopBounds;
+use crate::globals::Globals;
 use crate::locals::Locals;
 use crate::stack::Stack;
-use crate::variables::Globals;
 use lua_machine::LuaError;
 use lua_numbers::LuaNumber;
 use lua_store::laws::texts_may_grow;
