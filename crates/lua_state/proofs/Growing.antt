@@ -83,9 +83,9 @@ with_one h bytes = record h { texts = with_text h.texts bytes }
 pub store_more : (h : HeldState) (bytes : List ℕ) → IsSound h → ((texts : Texts) (bytes : List ℕ) (rows : List Cells) → All (AreHeld texts) rows → tables_of (with_text texts bytes) rows ≡ tables_of texts rows) → store_of (with_one h bytes) ≡ store_of h
 store_more h bytes sound tables_more =
     let values = map_same (IsHeld h.texts) (meant (with_text h.texts bytes)) (meant h.texts) (meant_more h.texts bytes) h.values sound.values in
-    let locals = variables_more h.texts bytes h.locals sound.locals in
+    let locals = variables_more h.texts bytes h.locals.running sound.locals in
     let globals = variables_more h.texts bytes h.globals sound.globals in
-    let callers = map_same (All (IsHeldVariable h.texts)) (variables_of (with_text h.texts bytes)) (variables_of h.texts) (variables_more h.texts bytes) h.callers sound.callers in
+    let callers = map_same (All (IsHeldVariable h.texts)) (variables_of (with_text h.texts bytes)) (variables_of h.texts) (variables_more h.texts bytes) h.locals.around sound.callers in
     let tables = tables_more h.texts bytes h.tables sound.tables in
     λ j. record { values = values j; callers = callers j; loops = map bounds_in h.loops; state = record { locals = locals j; globals = globals j; tables = tables j; generator = h.generator } }
 
@@ -95,8 +95,8 @@ sound_more h bytes sound apart tables_more =
     record {
       apart = apart;
       values = all_as (IsHeld h.texts) (IsHeld (with_text h.texts bytes)) (held_more h.texts bytes) h.values sound.values;
-      locals = all_as (IsHeldVariable h.texts) (IsHeldVariable (with_text h.texts bytes)) more h.locals sound.locals;
-      callers = all_as (All (IsHeldVariable h.texts)) (All (IsHeldVariable (with_text h.texts bytes))) (λ vs. all_as (IsHeldVariable h.texts) (IsHeldVariable (with_text h.texts bytes)) more vs) h.callers sound.callers;
+      locals = all_as (IsHeldVariable h.texts) (IsHeldVariable (with_text h.texts bytes)) more h.locals.running sound.locals;
+      callers = all_as (All (IsHeldVariable h.texts)) (All (IsHeldVariable (with_text h.texts bytes))) (λ vs. all_as (IsHeldVariable h.texts) (IsHeldVariable (with_text h.texts bytes)) more vs) h.locals.around sound.callers;
       globals = all_as (IsHeldVariable h.texts) (IsHeldVariable (with_text h.texts bytes)) more h.globals sound.globals;
       tables = all_as (AreHeld h.texts) (AreHeld (with_text h.texts bytes)) (tables_more h.texts bytes) h.tables sound.tables;
     }

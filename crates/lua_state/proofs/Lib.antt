@@ -8,3 +8,5 @@ pub mod Assigning
 pub mod Binding
 pub mod Opening
 pub mod Gathering
+pub mod Placing
+pub mod Scoping

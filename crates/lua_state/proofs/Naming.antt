@@ -76,14 +76,14 @@ module _ (h : HeldState) (at : ℕ) (sound : IsSound h) (inside : at < length h.
   name : List ℕ
   name = get_or h.texts at []
 
-  pub local_value : (value : SmallValue) → value_under at h.locals ≡ Some value → meant h.texts value ≡ value_of (get_or h.texts at []) (state_of h)
+  pub local_value : (value : SmallValue) → value_under at h.locals.running ≡ Some value → meant h.texts value ≡ value_of (get_or h.texts at []) (state_of h)
   local_value value e =
-      let there = among h.texts sound.apart at inside h.locals sound.locals ∙ ap is_some e in
-      let is = looked_up h.texts sound.apart at inside h.locals sound.locals ∙ ap (meant_or_nil h.texts) e in
-      sym (ap (λ b. cond b (look_up (get_or h.texts at []) (variables_of h.texts h.locals)) (look_up (get_or h.texts at []) (variables_of h.texts h.globals))) there ∙ is)
+      let there = among h.texts sound.apart at inside h.locals.running sound.locals ∙ ap is_some e in
+      let is = looked_up h.texts sound.apart at inside h.locals.running sound.locals ∙ ap (meant_or_nil h.texts) e in
+      sym (ap (λ b. cond b (look_up (get_or h.texts at []) (variables_of h.texts h.locals.running)) (look_up (get_or h.texts at []) (variables_of h.texts h.globals))) there ∙ is)
 
-  pub global_value : (u : Option SmallValue) → value_under at h.locals ≡ None → value_under at h.globals ≡ u → meant_or_nil h.texts u ≡ value_of (get_or h.texts at []) (state_of h)
+  pub global_value : (u : Option SmallValue) → value_under at h.locals.running ≡ None → value_under at h.globals ≡ u → meant_or_nil h.texts u ≡ value_of (get_or h.texts at []) (state_of h)
   global_value u e f =
-      let absent = among h.texts sound.apart at inside h.locals sound.locals ∙ ap is_some e in
+      let absent = among h.texts sound.apart at inside h.locals.running sound.locals ∙ ap is_some e in
       let is = looked_up h.texts sound.apart at inside h.globals sound.globals ∙ ap (meant_or_nil h.texts) f in
-      sym (ap (λ b. cond b (look_up (get_or h.texts at []) (variables_of h.texts h.locals)) (look_up (get_or h.texts at []) (variables_of h.texts h.globals))) absent ∙ is)
+      sym (ap (λ b. cond b (look_up (get_or h.texts at []) (variables_of h.texts h.locals.running)) (look_up (get_or h.texts at []) (variables_of h.texts h.globals))) absent ∙ is)

@@ -1,20 +1,25 @@
 -- Lists that are read from their end.
-use Rattle.std.proofs.Common.{◌≡◌, ℕ, suc, ◌-◌, ◌<◌, List, [], ◌∷◌, ◌++◌, length, get_or, take, drop, reverse, refl, sym, ap, ◌∙◌, arith, append_assoc}
+use Rattle.std.proofs.Common.{◌≡◌, ℕ, suc, ◌-◌, ◌<◌, List, [], ◌∷◌, ◌++◌, length, get_or, set, take, drop, reverse, sym, ap, ◌∙◌, arith, append_assoc}
 use Rattle.std.specs.Prelude.{min}
-use Rattle.std.proofs.lemmas.List.{reverse-append, length-reverse, take-append-drop, length-drop, reverse-reverse, drop_min}
+use Rattle.std.proofs.lemmas.List.{reverse-append, length-reverse, take-append-drop, length-drop, reverse-reverse, drop_min, set_at, set_split}
 use Rattle.std.proofs.Math.Seq.{drop-cons, drop-append_seam}
 
 -- what is behind a place in a list comes first in the reversed one
 pub reverse_seam : {T : Type 0} (before : List T) (x : T) (behind : List T) → reverse (before ++ x ∷ behind) ≡ reverse behind ++ x ∷ reverse before
 reverse_seam before x behind = reverse-append before (x ∷ behind) ∙ ap (λ all. all ++ reverse before) (reverse-append (x ∷ []) behind) ∙ append_assoc (reverse behind) (x ∷ []) (reverse before)
 
-pub got_seam : {T : Type 0} (before : List T) (x other : T) (behind : List T) → get_or (before ++ x ∷ behind) (length before) other ≡ x
-got_seam [] x other behind = refl
-got_seam (y ∷ before) x other behind = got_seam before x other behind
-
 -- a list is what stands before a place, what is there, and what stands behind it
 pub parted : {T : Type 0} (all : List T) (at : ℕ) (other : T) → at < length all → all ≡ take at all ++ get_or all at other ∷ drop (suc at) all
 parted all at other h = sym (take-append-drop at all) ∙ ap (λ behind. take at all ++ behind) (drop-cons all at other h)
+
+-- an item that is put at a place
+pub reversed_set : {T : Type 0} (all : List T) (at : ℕ) (x : T) → at < length all → reverse (set all at x) ≡ set (reverse all) (length all - suc at) x
+reversed_set all at x inside =
+    let y = get_or all at x in
+    let behind = drop (suc at) all in
+    let many : length (reverse behind) ≡ length all - suc at = length-reverse behind ∙ length-drop (suc at) all in
+    ap reverse (set_split all at x inside) ∙ reverse_seam (take at all) x behind
+    ∙ sym (ap (λ xs. set xs (length all - suc at) x) (ap reverse (parted all at x inside) ∙ reverse_seam (take at all) y behind) ∙ set_at (reverse behind) y (reverse (take at all)) x (length all - suc at) many)
 
 -- the first so many items are the last ones of the reversed list
 pub reverse_taken : {T : Type 0} (all : List T) (count : ℕ) → reverse (take count all) ≡ drop (length (reverse all) - count) (reverse all)

@@ -29,9 +29,9 @@ pub with_generator : (h : HeldState) (generator : Lcg) → IsSound h → IsSound
 with_generator h generator sound = record { apart = sound.apart; values = sound.values; locals = sound.locals; callers = sound.callers; globals = sound.globals; tables = sound.tables }
 
 -- the locals of a block go
-pub cut_held : (h : HeldState) (outer : ℕ) (locals : List Variable) → locals ≡ drop (length h.locals - outer) h.locals → store_of (record h { locals = locals }) ≡ in_state (cut_to outer (state_of h)) (store_of h)
+pub cut_held : (h : HeldState) (outer : ℕ) (locals : List Variable) → locals ≡ drop (length h.locals.running - outer) h.locals.running → store_of (record h { locals = record h.locals { running = locals } }) ≡ in_state (cut_to outer (state_of h)) (store_of h)
 cut_held h outer locals is =
-    let many : length (variables_of h.texts h.locals) - outer ≡ length h.locals - outer = ap (λ n. n - outer) (length-map h.locals (variable_of h.texts)) in
-    let now : variables_of h.texts locals ≡ drop (length (variables_of h.texts h.locals) - outer) (variables_of h.texts h.locals) =
-    ap (variables_of h.texts) is ∙ sym (drop-map (variable_of h.texts) (length h.locals - outer) h.locals) ∙ ap (λ n. drop n (variables_of h.texts h.locals)) (sym many) in
+    let many : length (variables_of h.texts h.locals.running) - outer ≡ length h.locals.running - outer = ap (λ n. n - outer) (length-map h.locals.running (variable_of h.texts)) in
+    let now : variables_of h.texts locals ≡ drop (length (variables_of h.texts h.locals.running) - outer) (variables_of h.texts h.locals.running) =
+    ap (variables_of h.texts) is ∙ sym (drop-map (variable_of h.texts) (length h.locals.running - outer) h.locals.running) ∙ ap (λ n. drop n (variables_of h.texts h.locals.running)) (sym many) in
     λ j. record (store_of h) { state = record (state_of h) { locals = now j } }

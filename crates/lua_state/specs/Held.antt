@@ -17,18 +17,18 @@ bounds_in b = record { first = b.first; last = b.last; by = b.by }
 
 -- the state
 abbrev pub state_of : HeldState → lua.State
-state_of h = record { locals = variables_of h.texts h.locals; globals = variables_of h.texts h.globals; tables = tables_of h.texts h.tables; generator = h.generator }
+state_of h = record { locals = variables_of h.texts h.locals.running; globals = variables_of h.texts h.globals; tables = tables_of h.texts h.tables; generator = h.generator }
 
 -- and what waits beside it
 abbrev pub store_of : HeldState → Store
-store_of h = record { values = map (meant h.texts) h.values; callers = map (variables_of h.texts) h.callers; loops = map bounds_in h.loops; state = state_of h }
+store_of h = record { values = map (meant h.texts) h.values; callers = map (variables_of h.texts) h.locals.around; loops = map bounds_in h.loops; state = state_of h }
 
 -- no text is held twice, and those of all values, names and keys are held
 pub record IsSound (h : HeldState) : Type 0 where
   pub apart : AreApart h.texts
   pub values : All (IsHeld h.texts) h.values
-  pub locals : All (IsHeldVariable h.texts) h.locals
-  pub callers : All (All (IsHeldVariable h.texts)) h.callers
+  pub locals : All (IsHeldVariable h.texts) h.locals.running
+  pub callers : All (All (IsHeldVariable h.texts)) h.locals.around
   pub globals : All (IsHeldVariable h.texts) h.globals
   pub tables : All (AreHeld h.texts) h.tables
 

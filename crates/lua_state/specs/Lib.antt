@@ -1,5 +1,8 @@
 pub mod Stacks
 pub mod Variables
+pub mod Bindings
+pub mod Locals
+pub mod Globals
 pub mod Store
 pub mod Calls
 pub mod Held

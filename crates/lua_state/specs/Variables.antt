@@ -1,5 +1,5 @@
 -- Variables as they are held: the place of the name among the texts, and the value.
-use Rattle.std.specs.Prelude.{◌≡◌, ℕ, ◌<◌, ◌==◌, List, [], ◌∷◌, map, set, length, get_or, ◌++◌, if◌then◌else◌, Option, Some, None}
+use Rattle.std.specs.Prelude.{ℕ, ◌<◌, ◌==◌, List, [], ◌∷◌, map, length, get_or, ◌++◌, if◌then◌else◌, Option, Some, None}
 use Rattle.std.specs.Option.{is_some}
 use Rattle.lua_machine.specs.Value.{LuaValue}
 use Rattle.lua_machine.specs.State as lua
@@ -17,20 +17,9 @@ abbrev pub with_value : ℕ → SmallValue → List Variable → List Variable
 with_value name value [] = []
 with_value name value (first ∷ more) = if first.name == name then record { name = name; value = value } ∷ more else first ∷ with_value name value more
 
--- where a name was looked for among variables that stand in some order: the first of it stands here, or there is none
-abbrev pub FoundIn : (List Variable → List Variable) → ℕ → List Variable → Option ℕ → Type 0
-FoundIn order name variables None = (value_under name (order variables) ≡ None) × ((value : SmallValue) → with_value name value (order variables) ≡ order variables)
-FoundIn order name variables (Some at) =
-    (at < length variables) × ((other : Variable) → value_under name (order variables) ≡ Some (get_or variables at other).value)
-    × ((value : SmallValue) → with_value name value (order variables) ≡ order (set variables at (record { name = name; value = value })))
-
 -- a new value of the first of this name; where there is none, it comes last
 abbrev pub with_global : ℕ → SmallValue → List Variable → List Variable
 with_global name value variables = if is_some (value_under name variables) then with_value name value variables else variables ++ record { name = name; value = value } ∷ []
-
--- a name with its value
-abbrev pub global_of : ℕ × SmallValue → Variable
-global_of entry = record { name = entry.0; value = entry.1 }
 
 -- what it stands for
 abbrev pub variable_of : Texts → Variable → List ℕ × LuaValue

@@ -10,11 +10,9 @@ ghost use Rattle.std.specs.List.{All};
 ghost use Rattle.std.specs.Prelude.{map};
 
 use crate::held::HeldState;
-use crate::stack::Stack;
 use lua_store::SmallValue;
 use lua_tree::Text;
 use std::alloc::Global;
-use std::mem;
 use tis_base::NoMemory;
 
 // The value of a part, nil where there are fewer.
@@ -31,14 +29,12 @@ fn part(values: &[SmallValue], index: usize) -> SmallValue
 
 impl HeldState {
     // The locals go behind those of the calls around.
-    fn set_aside(&mut self, alloc: Global) -> Result<(), NoMemory>
+    fn set_aside(&mut self) -> Result<(), NoMemory>
         requires { IsSound self.old }
         ensures aside { OnOk result (store_of self.new ≡ set_aside (store_of self.old)) }
         ensures sound { IsSound self.new }
     {
-        let locals = mem::replace(&mut self.locals, Stack::new(alloc));
-        self.callers.push(locals)?;
-        Ok(())
+        self.locals.enter()
     }
 
     // A new local with the value of a part.
@@ -91,18 +87,18 @@ impl HeldState {
         ensures entered { OnOk result (store_of self.new ≡ called params.now count (store_of self.old)) }
         ensures sound { IsSound self.new }
     {
-        self.set_aside(alloc)?;
+        self.set_aside()?;
         self.bind_all(alloc, params, count)?;
         self.drop_parts(count);
         Ok(())
     }
 
     /// Leaves a function: the locals of its caller are as they were.
-    pub(crate) fn leave(&mut self, alloc: Global)
+    pub(crate) fn leave(&mut self)
         requires { IsSound self.old }
         ensures left { store_of self.new ≡ left (store_of self.old) }
         ensures sound { IsSound self.new }
     {
-        self.locals = self.callers.pop_or(Stack::new(alloc));
+        self.locals.leave();
     }
 }

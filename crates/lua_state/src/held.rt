@@ -7,8 +7,9 @@ ghost use Rattle.lua_state.specs.Held.{IsSound, state_of, store_of};
 ghost use Rattle.lua_state.specs.Store.{Answers, in_state, popped, pushed, with_made};
 
 use crate::bounds::LoopBounds;
+use crate::globals::Globals;
+use crate::locals::Locals;
 use crate::stack::Stack;
-use crate::variables::{Globals, Variable};
 use lua_machine::LuaError;
 use lua_numbers::LuaNumber;
 use lua_store::laws::texts_may_grow;
@@ -22,8 +23,7 @@ use tis_base::NoMemory;
 pub(crate) struct HeldState {
     pub(crate) texts: HeldTexts,
     pub(crate) values: Stack<SmallValue>,
-    pub(crate) locals: Stack<Variable>,
-    pub(crate) callers: Stack<Stack<Variable>>,
+    pub(crate) locals: Locals,
     pub(crate) globals: Globals,
     pub(crate) tables: LuaTables,
     pub(crate) loops: Stack<LoopBounds>,

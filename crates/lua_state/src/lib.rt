@@ -13,16 +13,21 @@
 //! state.assign(alloc, b"a")?;
 //! ```
 //!
-//! A name is looked for among the texts that are held, then among the locals of the function from the innermost on, and then among the globals
-//! by a hash, so a look-up takes time with the number of locals in scope. A new text takes memory, and so does a value that is put, now and then; no call copies a table
+//! A name is looked for among the texts that are held, and its place there numbers it. A table by that number tells where the innermost local of the
+//! name stands, and each local where the one stands that it shadows, so that nothing is walked through when a name is looked up, or when a block ends and the
+//! locals around it are seen again. Another table tells where each global stands. A new text takes memory, and so does a value that is put, now and then; no call copies a table
 //! or a list of variables.
 //!
 //! Units are for the caller.
 #![tactic(auto)]
 
+mod bindings;
 mod bounds;
+mod by_name;
 mod calls;
+mod globals;
 mod held;
+mod locals;
 mod loops;
 mod making;
 mod names;

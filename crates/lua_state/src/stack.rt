@@ -1,5 +1,5 @@
 //! A stack, which contracts see as a list whose first element is the top.
-ghost use Rattle.std.specs.Prelude.{◌≡◌, ◌-◌, [], ◌∷◌, ◌≤◌, length, drop, take, reverse, OnErr, OnOk, MatchOption};
+ghost use Rattle.std.specs.Prelude.{◌≡◌, ◌-◌, [], ◌∷◌, ◌<◌, ◌≤◌, get_or, set, length, drop, take, reverse, OnErr, OnOk, MatchOption};
 ghost use Rattle.lua_state.specs.Stacks.{top, below};
 
 use std::alloc::Global;
@@ -39,6 +39,16 @@ impl<T> Stack<T> {
         from(self.items.as_slice(), left)
     }
 
+    /// The item at a place, where the bottom has place 1.
+    #[inline(always)]
+    pub fn at(&self, place: usize) -> &T
+        requires some { 0 < place }
+        requires inside { place ≤ length self.now }
+        ensures { (other : T) → result.now ≡ get_or self.now (length self.now - place) other }
+    {
+        &self.items[place - 1]
+    }
+
     /// How many items there are.
     pub fn len(&self) -> usize
         ensures { result ≡ length self.now }
@@ -61,6 +71,15 @@ impl<T: Drop> Stack<T> {
     {
         self.items.push(item)?;
         Ok(())
+    }
+
+    /// Puts an item at a place, where the bottom has place 1.
+    pub fn set(&mut self, place: usize, item: T)
+        requires some { 0 < place }
+        requires inside { place ≤ length self.old }
+        ensures { self.new ≡ set self.old (length self.old - place) item }
+    {
+        self.items[place - 1] = item;
     }
 
     /// Leaves so many items, those at the bottom.

@@ -5,9 +5,10 @@ ghost use Rattle.lua_machine.specs.State.{assigned};
 ghost use Rattle.lua_state.specs.Held.{IsSound, state_of, store_of};
 ghost use Rattle.lua_state.specs.Store.{in_state, starting, with_first};
 
+use crate::globals::Globals;
 use crate::held::HeldState;
+use crate::locals::Locals;
 use crate::stack::Stack;
-use crate::variables::Globals;
 use lua_numbers::LuaNumber;
 use lua_store::{HeldTexts, LuaTables};
 use rand_pcg::Pcg32;
@@ -34,8 +35,7 @@ impl HeldState {
         HeldState {
             texts: HeldTexts::new(alloc),
             values: Stack::new(alloc),
-            locals: Stack::new(alloc),
-            callers: Stack::new(alloc),
+            locals: Locals::new(alloc),
             globals: Globals::new(alloc),
             tables: LuaTables::new(alloc),
             loops: Stack::new(alloc),

@@ -322,7 +322,7 @@ impl LuaState {
     pub fn leave(&mut self, alloc: Global)
         ensures { store_of self.new ≡ left (store_of self.old) }
     {
-        self.held.leave(alloc);
+        self.held.leave();
     }
 
     /// Stores a value under a name in a table; the newest so many values have to be both.

@@ -6,7 +6,7 @@ pub returns-in-Some-clause-value : goal.returns-in-Some-clause-value
 returns-in-Some-clause-value c = local_value c.args.self.now c.args.at c.requires.sound c.requires.inside c.in-Some.value (sym c.in-Some.ensures)
 
 pub returns-in-Some-clause-held : goal.returns-in-Some-clause-held
-returns-in-Some-clause-held c = held_under c.args.self.now.texts c.args.at c.args.self.now.locals c.in-Some.value c.requires.sound.locals (sym c.in-Some.ensures)
+returns-in-Some-clause-held c = held_under c.args.self.now.texts c.args.at c.args.self.now.locals.running c.in-Some.value c.requires.sound.locals (sym c.in-Some.ensures)
 
 pub returns-in-Some-value-clause-value : goal.returns-in-Some-value-clause-value
 returns-in-Some-value-clause-value c = global_value c.args.self.now c.args.at c.requires.sound c.requires.inside (Some c.in-Some-value.value) (sym c.in-None.ensures) (sym c.in-Some-value.ensures)
