@@ -26,8 +26,9 @@
 //!
 //! # What it costs
 //!
-//! A cycle goes over the tiles, and a second time where one was writing when it began, and asks of each what it can do.
-//! `cycle` writes its events down; `count_cycle` and a run count them alone. `cycle`, `count_cycle` and `run` take no memory;
+//! A cycle goes over the tiles that have a program, and a second time over those that were writing when it began, and asks of each what it can do.
+//! In a run, a tile that waits for one that computes and doesn't write falls asleep: it is passed over until any tile begins to write
+//! (`specs/Sleepers.antt`). `cycle` writes its events down; `count_cycle` and a run count them alone. `cycle`, `count_cycle` and `run` take no memory;
 //! `run_making_room` takes some where an output has no room left.
 //!
 //! # What it doesn't do
