@@ -2,9 +2,9 @@
 //!
 //! A [`Machine`] has the frames of all that waits, the state of an evaluation (`lua_state`), how many calls are open, and the
 //! [`Units`] that are paid; a [`Control`] says where it is. Contracts see both as a configuration of
-//! `lua_machine/specs/Machine.antt`: `machine_of` of `specs/Machines.antt`. [`Machine::turn`] does what a turn of that machine does
-//! (`Steps` of `specs/Steps.antt`): it comes to the next configuration, or to the end, or to the fault with its line, or it says that
-//! the budget is spent, and then the turn has paid more than 500,000 units.
+//! `lua_machine/specs/Machine.antt`: `machine_of` of `specs/Machines.antt`. [`Machine::turn`] does what a turn of that machine does, or
+//! several of them (`Arrives` of `specs/Steps.antt`): it comes to the next configuration, or to the end, or to the fault with its line, or it
+//! says that the budget is spent, and then these turns have paid more than 500,000 units.
 //!
 //! ```text
 //! let functions = FunctionTable::new(alloc, items)?;
@@ -24,7 +24,10 @@
 //! A [`Frame`] is copied: it holds references into the tree and counts, and the values of its parts, the locals of a caller and
 //! the bounds of a loop wait beside it in the state. A turn takes memory for a frame or two at most, and for what `lua_state` takes.
 //! A [`FunctionTable`] has the functions of the chunk by the hashes of their names: it is made once, with an entry for each name, and a call then
-//! takes one look-up, however many functions there are. Nothing here takes more than one turn.
+//! takes one look-up, however many functions there are.
+//!
+//! A part that is a numeral, a name, nil or a truth value, or an operator or an index of two such, waits for nothing: its turns are taken where it would be
+//! begun (`simple.rt`), with no frame. Of several parts those are taken one after the other, up to the first that is none. No other turns are taken together.
 #![tactic(auto)]
 
 mod beginning;
