@@ -29,6 +29,9 @@ function g() return 1 end function g() return 2 end function f() return g() end|
 x = g() function g() return 4 end function f() return x end|4|7
 function g() x = 3 end function f() g() return x end|3|7
 function g() return a end function f() local a = 1 return g() end|nil|7
+function g() a = 2 end function f() local a = 1 g() return a end|1|9
+function g() local a = 2 return a end function f() local a = 1 return g() + a end|3|11
+function g(n) local m = n if n > 0 then g(n - 1) end return m end function f() return g(1) end|1|25
 g = 1 function g() return g end function f() return g() end|1|7
 "
 }
@@ -112,6 +115,9 @@ function f() for i = 2, 1 do return i end end|nil|4
 function f() local n = 0 for i = 1, 2 do n = n + 1 i = 5 end return n end|2|22
 function f() local n = 0 for i = 9007199254740992, 9007199254740992 do n = n + 1 end return n end|1|13
 function f() local a = 1 do local a = 2 end return a end|1|8
+function f() local a = 1 for a = 2, 3 do local a = 4 end return a end|1|14
+function f() local a = 1 do local a = 2 a = 3 end a = a + 4 return a end|5|14
+function f() local a = 1 local a = 2 do local a = 3 a = 4 end a = 5 return a end|5|14
 function f() while true do break end return 1 end|1|7
 function f() repeat break until nil end|nil|4
 function f() for i = 1, 5 do return i end end|1|7

@@ -1,5 +1,5 @@
 //! Variables that stand one above the other, found by their names without a walk.
-ghost use Rattle.std.specs.Prelude.{◌≡◌, ℕ, ◌-◌, ◌<◌, ◌≤◌, [], ◌∷◌, ◌++◌, drop, get_or, length, set, OnErr, OnOk};
+ghost use Rattle.std.specs.Prelude.{◌≡◌, ◌-◌, ◌<◌, ◌≤◌, [], ◌∷◌, ◌++◌, drop, get_or, length, set, OnErr, OnOk};
 ghost use Rattle.std.specs.Option.{is_some};
 ghost use Rattle.lua_state.specs.Bindings.{names, place_of};
 ghost use Rattle.lua_state.specs.Locals.{above, lowest};
