@@ -9,8 +9,6 @@ use Rattle.lua_machine.specs.Value.{Fault}
 use Rattle.lua_machine.specs.declared.error.LuaError.{LuaError}
 use Rattle.lua_frames.specs.declared.control.Control.{Control}
 use Rattle.lua_frames.specs.declared.machine.Machine as held
-use Rattle.lua_frames.specs.declared.turns.Step.{Step}
-use Rattle.lua_frames.specs.Steps.{Arrives, Steps}
 use Rattle.lua_frames.specs.Turns.{Comes, Reaches, Turns}
 
 pub none_after : (chunk : List ItemNode) (main : Function) (t : Turned) → after_turns chunk main zero t ≡ t
@@ -47,9 +45,6 @@ at_once {result} {now} {wanted} turns = record { to = wanted; reaches = reaches_
 
 pub comes_behind : {result : Result Control LuaError} {now : held.Machine} {from mid : Turned} → Reaches from mid → Comes result now mid → Comes result now from
 comes_behind reaches comes = record { to = comes.to; reaches = reaches_through reaches comes.reaches; turns = comes.turns }
-
-pub arrives_at_once : {result : Result Step LuaError} {now : held.Machine} {wanted : Turned} → Steps result now wanted → Arrives result now wanted
-arrives_at_once {result} {now} {wanted} step = record { to = wanted; reaches = reaches_itself wanted; step = step }
 
 -- the turns that passed a part, and those behind it
 pub passed : {result : Result Control LuaError} {now : held.Machine} {from mid : Turned} → Reaches from mid → Turns result now mid → Comes result now from

@@ -11,11 +11,11 @@ use Rattle.lua_machine.specs.Turn.{after_turns, back, begun, evaluating, express
 use Rattle.lua_machine.specs.Value.{Fault, LuaValue}
 use Rattle.lua_machine.specs.declared.error.LuaError.{LuaError}
 use Rattle.lua_machine.specs.declared.error.LuaError.TheVariants as e
-use Rattle.lua_state.specs.Store.{Refuses, Store, in_state, parts, popped, pushed, with_done, without}
+use Rattle.lua_state.specs.Store.{Refuses, Store, in_state, parts, pushed, with_done, without}
 use Rattle.lua_frames.specs.declared.frame.Frame.{Frame}
 use Rattle.lua_frames.specs.declared.machine.Machine as held
 use Rattle.lua_frames.specs.Frames.{frames_of, waits_in}
-use Rattle.lua_frames.specs.Simple.{Gives, Pushes, Puts, PutsBoth, simple_value}
+use Rattle.lua_frames.specs.Simple.{Gives, Puts, PutsBoth, simple_value}
 use Rattle.lua_frames.specs.Turns.{Comes, Reaches, Stops}
 use Rattle.lua_frames.proofs.Backs.{stopped_back}
 use Rattle.lua_frames.proofs.Parted.{one_part_more, without_one_more}
@@ -83,15 +83,6 @@ simple_gives result node old new cost now puts = by result (simple_value node ol
     by (Err (e.OutOfRange line)) of is puts = absurd puts
     by (Err (e.LongString line)) of is puts = absurd puts
     by (Err (e.TooDeepCalls line)) of is puts = absurd puts
-
--- it was put, and then paid
-pub pushed_puts : (of : Option LuaValue) (old new : Store) (cost now : ℕ) → Pushes (Ok true) of old new → now ≡ cost + 1 → Puts (Ok true) of old cost new now
-pushed_puts None old new cost now puts is = absurd puts
-pushed_puts (Some value) old new cost now puts is = (puts, is)
-
-pub pushed_stops : (of : Option LuaValue) (old new : Store) (cost now : ℕ) (why : LuaError) → Pushes (Ok true) of old new → (why ≡ e.Budget) × (most_units < cost + 1) → Puts (Err why) of old cost new now
-pushed_stops None old new cost now why puts is = absurd puts
-pushed_stops (Some value) old new cost now why puts is = subst (λ w. Puts (Err w) (Some value) old cost new now) (sym is.0) is.1
 
 -- ---- an operation on two simple parts
 
@@ -194,36 +185,6 @@ both_stop node making left right begins old mid new cost now why both = by why (
     by (e.OutOfRange line) l left_is r right_is puts = absurd puts
     by (e.LongString line) l left_is r right_is puts = absurd puts
     by (e.TooDeepCalls line) l left_is r right_is puts = absurd puts
-
--- the left part is taken away again
-pub left_again : (of : Option LuaValue) (old mid right new : Store) → Pushes (Ok true) of old mid → right ≡ mid → new ≡ popped right → new ≡ old
-left_again None old mid right new puts same is = absurd puts
-left_again (Some value) old mid right new puts same is = is ∙ ap popped same ∙ ap popped puts
-
--- both were put, one after the other, and then paid
-pub both_put : (left right : Node) (old mid new : Store) (cost now : ℕ) → Pushes (Ok true) (simple_value left old.state) old mid → Pushes (Ok true) (simple_value right mid.state) mid new → now ≡ cost + 3 →
-    PutsBoth (Ok true) (simple_value left old.state) (simple_value right old.state) old cost new now
-both_put left right old mid new cost now left_puts right_puts spent = by (simple_value left old.state) left_puts
-  where
-    right_by : (a : LuaValue) (r : Option LuaValue) → mid ≡ pushed a old → Pushes (Ok true) r mid new → PutsBoth (Ok true) (Some a) r old cost new now
-    right_by a None is puts = absurd puts
-    right_by a (Some b) is puts = (puts ∙ ap (pushed b) is, spent)
-
-    by : (l : Option LuaValue) → Pushes (Ok true) l old mid → PutsBoth (Ok true) l (simple_value right old.state) old cost new now
-    by None puts = absurd puts
-    by (Some a) puts = right_by a (simple_value right old.state) puts (subst (λ (s : Store). Pushes (Ok true) (simple_value right s.state) mid new) puts right_puts)
-
-pub both_refused : (left right : Node) (old mid new : Store) (cost now : ℕ) (why : LuaError) → Pushes (Ok true) (simple_value left old.state) old mid → Pushes (Ok true) (simple_value right mid.state) mid new →
-    (why ≡ e.Budget) × (most_units < cost + 3) → PutsBoth (Err why) (simple_value left old.state) (simple_value right old.state) old cost new now
-both_refused left right old mid new cost now why left_puts right_puts spent = by (simple_value left old.state) left_puts
-  where
-    right_by : (a : LuaValue) (r : Option LuaValue) → Pushes (Ok true) r mid new → PutsBoth (Err why) (Some a) r old cost new now
-    right_by a None puts = absurd puts
-    right_by a (Some b) puts = subst (λ w. PutsBoth (Err w) (Some a) (Some b) old cost new now) (sym spent.0) spent.1
-
-    by : (l : Option LuaValue) → Pushes (Ok true) l old mid → PutsBoth (Err why) l (simple_value right old.state) old cost new now
-    by None puts = absurd puts
-    by (Some a) puts = right_by a (simple_value right old.state) (subst (λ (s : Store). Pushes (Ok true) (simple_value right s.state) mid new) puts right_puts)
 
 -- ---- as a part
 
