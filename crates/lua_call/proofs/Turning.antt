@@ -11,11 +11,8 @@ use Rattle.lua_frames.specs.declared.turns.Step.{Step}
 use Rattle.lua_frames.specs.declared.turns.Step.TheVariants as s
 use Rattle.lua_frames.specs.Machines.{machine_of}
 use Rattle.lua_frames.specs.Turns.{Reaches}
+use Rattle.lua_frames.proofs.Reaching.{none_after}
 use Rattle.lua_call.specs.Running.{Came, Leads}
-
-none_after : (chunk : List ItemNode) (main : Function) (t : Turned) → after_turns chunk main zero t ≡ t
-none_after chunk main (Next m) = refl
-none_after chunk main (Ended answer cost) = refl
 
 one_after : (chunk : List ItemNode) (main : Function) (turns : ℕ) (from : Turned) (m : Machine) → after_turns chunk main turns from ≡ Next m → after_turns chunk main (suc turns) from ≡ turn chunk main m
 one_after chunk main zero (Ended answer cost) m is = absurd (cc is)
