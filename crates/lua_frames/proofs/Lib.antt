@@ -6,3 +6,4 @@ pub mod Parted
 pub mod Assigning
 pub mod Reaching
 pub mod Taking
+pub mod Valuing

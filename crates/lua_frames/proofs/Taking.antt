@@ -15,7 +15,7 @@ use Rattle.lua_state.specs.Store.{Refuses, Store, in_state, parts, pushed, with_
 use Rattle.lua_frames.specs.declared.frame.Frame.{Frame}
 use Rattle.lua_frames.specs.declared.machine.Machine as held
 use Rattle.lua_frames.specs.Frames.{frames_of, waits_in}
-use Rattle.lua_frames.specs.Simple.{Gives, Puts, PutsBoth, simple_value}
+use Rattle.lua_frames.specs.Simple.{Gives, IsStopped, Puts, Takes, simple_value}
 use Rattle.lua_frames.specs.Turns.{Comes, Reaches, Stops}
 use Rattle.lua_frames.proofs.Backs.{stopped_back}
 use Rattle.lua_frames.proofs.Parted.{one_part_more, without_one_more}
@@ -62,10 +62,10 @@ resumed_part : (making : machine.Making) (values : List LuaValue) (others : Node
 resumed_part making values others frames calls state cost value = record { turns = 1; after = λ chunk main. none_after chunk main (begun making (values ++ value ∷ []) others frames calls state cost) }
 
 -- a simple expression gives its value
-pub simple_gives : (result : Result Bool LuaError) (node : Node) (old new : Store) (cost now : ℕ) → Puts result (simple_value node old.state) old cost new now → Gives result node old cost new now
-simple_gives result node old new cost now puts = by result (simple_value node old.state) refl puts
+pub simple_takes : (result : Result Bool LuaError) (node : Node) (old new : Store) (cost now : ℕ) → Puts result (simple_value node old.state) old cost new now → Takes result node old cost new now
+simple_takes result node old new cost now puts = by result (simple_value node old.state) refl puts
   where
-    by : (result : Result Bool LuaError) (of : Option LuaValue) → simple_value node old.state ≡ of → Puts result of old cost new now → Gives result node old cost new now
+    by : (result : Result Bool LuaError) (of : Option LuaValue) → simple_value node old.state ≡ of → Puts result of old cost new now → Takes result node old cost new now
     by (Ok true) None is puts = absurd puts
     by (Ok true) (Some value) is puts = (
       value,
@@ -84,107 +84,56 @@ simple_gives result node old new cost now puts = by result (simple_value node ol
     by (Err (e.LongString line)) of is puts = absurd puts
     by (Err (e.TooDeepCalls line)) of is puts = absurd puts
 
--- ---- an operation on two simple parts
-
--- how it is begun
-abbrev pub Begins : Node → machine.Making → Node → Node → Type 0
-Begins node making left right =
-    (chunk : List ItemNode) (frames : List machine.Frame) (calls : ℕ) (state : State) (cost : ℕ) → expression_begun chunk node frames calls state cost ≡ begun making [] (left and right and none) frames calls state (cost + 1)
+-- ---- an operation on parts
 
 -- what is made of its parts
 abbrev pub Makes : machine.Making → (List LuaValue → State → Done LuaValue) → Type 0
 Makes making done = (values : List LuaValue) (frames : List machine.Frame) (calls : ℕ) (state : State) (cost : ℕ) → made making values frames calls state cost ≡ back (done values state) frames calls cost
 
-begun_two : (node : Node) (making : machine.Making) (left right : Node) → Begins node making left right → (frames : List machine.Frame) (calls : ℕ) (state : State) (cost : ℕ) →
-    Reaches (evaluating node frames calls state cost) (begun making [] (left and right and none) frames calls state (cost + 1))
-begun_two node making left right begins frames calls state cost = record {
+-- its parts were evaluated, and put
+abbrev pub ComesToMake : Node → machine.Making → List LuaValue → Store → ℕ → State → ℕ → Type 0
+ComesToMake node making values old cost state now = (frames : List machine.Frame) (calls : ℕ) → Reaches (evaluating node frames calls old.state cost) (made making values frames calls state now)
+
+-- what is made of them is its value
+pub made_gives : (node : Node) (making : machine.Making) (done : List LuaValue → State → Done LuaValue) → Makes making done → (values : List LuaValue) (old new : Store) (state : State) (cost now : ℕ) →
+    ComesToMake node making values old cost state now → with_done (done values state) (in_state state old) ≡ Ok new → Gives node old cost new now
+made_gives node making done makes values old new state cost now comes is = by (done values state).outcome (done values state).state refl is
+  where
+    by : (outcome : Result LuaValue Fault) (s : State) → record { outcome = outcome; state = s } ≡ done values state → with_done (record { outcome = outcome; state = s }) (in_state state old) ≡ Ok new → Gives node old cost new now
+    by (Ok value) s same made_is = (
+      value,
+      s,
+      sym (ok_is made_is),
+      λ frames calls. subst (λ d. Reaches (evaluating node frames calls old.state cost) (back d frames calls now)) (sym same) (subst (λ t. Reaches (evaluating node frames calls old.state cost) t) (makes values frames calls state now) (comes frames calls)),
+    )
+    by (Err why) s same made_is = err_isnt_ok made_is
+
+-- or its fault
+pub made_stops : (node : Node) (making : machine.Making) (done : List LuaValue → State → Done LuaValue) → Makes making done → (values : List LuaValue) (old : Store) (state : State) (cost now : ℕ) (why : LuaError) →
+    ComesToMake node making values old cost state now → Refuses why (with_done (done values state) (in_state state old)) → IsStopped why node old cost now
+made_stops node making done makes values old state cost now why comes is = λ frames calls. (
+  back (done values state) frames calls now,
+  subst (λ t. Reaches (evaluating node frames calls old.state cost) t) (makes values frames calls state now) (comes frames calls),
+  stopped_back why (done values state).outcome (done values state).state (in_state state old) frames calls now is,
+)
+
+-- ---- its parts
+
+-- how it is begun
+pub begun_by : (node : Node) (making : machine.Making) (parts : Nodes) → ((chunk : List ItemNode) (frames : List machine.Frame) (calls : ℕ) (state : State) (cost : ℕ) → expression_begun chunk node frames calls state cost ≡ begun making [] parts frames calls state (cost + 1)) →
+    (frames : List machine.Frame) (calls : ℕ) (state : State) (cost : ℕ) → Reaches (evaluating node frames calls state cost) (begun making [] parts frames calls state (cost + 1))
+begun_by node making parts begins frames calls state cost = record {
   turns = 1;
   after = λ chunk main. none_after chunk main (expression_begun chunk node frames calls state cost) ∙ begins chunk frames calls state cost;
 }
 
-at_last : (node : Node) (making : machine.Making) (left right : Node) → Begins node making left right → (frames : List machine.Frame) (calls : ℕ) (state : State) (cost : ℕ) (a b : LuaValue) →
-    simple_value left state ≡ Some a → simple_value right state ≡ Some b → Reaches (evaluating node frames calls state cost) (back (gives b state) (Part making (a ∷ []) none ∷ frames) calls (cost + 1 + 1 + 1))
-at_last node making left right begins frames calls state cost a b left_is right_is =
-    reaches_through (begun_two node making left right begins frames calls state cost)
-    (reaches_through (one_turn left (Part making [] (right and none) ∷ frames) calls state (cost + 1) a left_is)
-    (reaches_through (resumed_part making [] (right and none) frames calls state (cost + 1 + 1) a)
-    (one_turn right (Part making (a ∷ []) none ∷ frames) calls state (cost + 1 + 1) b right_is)))
+-- the value of a part goes to those before it
+abbrev pub PartGiven : Node → State → ℕ → LuaValue → State → ℕ → Type 0
+PartGiven node state cost value after now = (frames : List machine.Frame) (calls : ℕ) → Reaches (evaluating node frames calls state cost) (back (gives value after) frames calls now)
 
-at_done : (node : Node) (making : machine.Making) (left right : Node) (done : List LuaValue → State → Done LuaValue) → Begins node making left right → Makes making done →
-    (frames : List machine.Frame) (calls : ℕ) (state : State) (cost : ℕ) (a b : LuaValue) → simple_value left state ≡ Some a → simple_value right state ≡ Some b →
-    Reaches (evaluating node frames calls state cost) (back (done (a ∷ b ∷ []) state) frames calls (cost + 3))
-at_done node making left right done begins makes frames calls state cost a b left_is right_is =
-    let three : cost + 1 + 1 + 1 ≡ cost + 3 = omega arith in
-    subst (λ n. Reaches (evaluating node frames calls state cost) (back (done (a ∷ b ∷ []) state) frames calls n)) three
-    (subst (λ t. Reaches (evaluating node frames calls state cost) t) (makes (a ∷ b ∷ []) frames calls state (cost + 1 + 1 + 1))
-    (reaches_through (at_last node making left right begins frames calls state cost a b left_is right_is) (resumed_part making (a ∷ []) none frames calls state (cost + 1 + 1 + 1) b)))
-
--- both parts were put, and what is made of them too
-pub both_give : (node : Node) (making : machine.Making) (left right : Node) (done : List LuaValue → State → Done LuaValue) → Begins node making left right → Makes making done → (old mid new : Store) (cost now : ℕ) →
-    PutsBoth (Ok true) (simple_value left old.state) (simple_value right old.state) old cost mid now → with_done (done (parts 2 mid) mid.state) (without 2 mid) ≡ Ok new → Gives (Ok true) node old cost new now
-both_give node making left right done begins makes old mid new cost now both is = by (simple_value left old.state) refl (simple_value right old.state) refl both
-  where
-    given : (a b : LuaValue) → simple_value left old.state ≡ Some a → simple_value right old.state ≡ Some b → (outcome : Result LuaValue Fault) (state : State) → record { outcome = outcome; state = state } ≡ done (a ∷ b ∷ []) old.state →
-        with_done (record { outcome = outcome; state = state }) old ≡ Ok new → now ≡ cost + 3 → Gives (Ok true) node old cost new now
-    given a b left_is right_is (Ok value) state same made_is spent = (
-      value,
-      state,
-      sym (ok_is made_is),
-      λ frames calls. subst (λ n. Reaches (evaluating node frames calls old.state cost) (back (gives value state) frames calls n)) (sym spent)
-          (subst (λ d. Reaches (evaluating node frames calls old.state cost) (back d frames calls (cost + 3))) (sym same) (at_done node making left right done begins makes frames calls old.state cost a b left_is right_is)),
-    )
-    given a b left_is right_is (Err why) state same made_is spent = err_isnt_ok made_is
-
-    by : (l : Option LuaValue) → simple_value left old.state ≡ l → (r : Option LuaValue) → simple_value right old.state ≡ r → PutsBoth (Ok true) l r old cost mid now → Gives (Ok true) node old cost new now
-    by None left_is r right_is puts = absurd puts
-    by (Some a) left_is None right_is puts = absurd puts
-    by (Some a) left_is (Some b) right_is puts =
-        let of = done (a ∷ b ∷ []) old.state in
-        given a b left_is right_is of.outcome of.state refl (subst (λ (s : Store). with_done (done (parts 2 s) s.state) (without 2 s) ≡ Ok new) puts.0 is) puts.1
-
--- both parts were put, and there is a fault in what is made of them
-pub both_fault : (node : Node) (making : machine.Making) (left right : Node) (done : List LuaValue → State → Done LuaValue) → Begins node making left right → Makes making done → (old mid new : Store) (cost now : ℕ) (why : LuaError) →
-    PutsBoth (Ok true) (simple_value left old.state) (simple_value right old.state) old cost mid now → Refuses why (with_done (done (parts 2 mid) mid.state) (without 2 mid)) → Gives (Err why) node old cost new now
-both_fault node making left right done begins makes old mid new cost now why both is = by (simple_value left old.state) refl (simple_value right old.state) refl both
-  where
-    by : (l : Option LuaValue) → simple_value left old.state ≡ l → (r : Option LuaValue) → simple_value right old.state ≡ r → PutsBoth (Ok true) l r old cost mid now → Gives (Err why) node old cost new now
-    by None left_is r right_is puts = absurd puts
-    by (Some a) left_is None right_is puts = absurd puts
-    by (Some a) left_is (Some b) right_is puts =
-        let of = done (a ∷ b ∷ []) old.state in
-        let refuses : Refuses why (with_done of old) = subst (λ (s : Store). Refuses why (with_done (done (parts 2 s) s.state) (without 2 s))) puts.0 is in
-        λ frames calls. (
-          back of frames calls (cost + 3),
-          at_done node making left right done begins makes frames calls old.state cost a b left_is right_is,
-          subst (λ n. Stops why n (back of frames calls (cost + 3))) (sym puts.1) (stopped_back why of.outcome of.state old frames calls (cost + 3) refuses),
-        )
-
--- a unit of theirs couldn't be paid
-pub both_stop : (node : Node) (making : machine.Making) (left right : Node) → Begins node making left right → (old mid new : Store) (cost now : ℕ) (why : LuaError) →
-    PutsBoth (Err why) (simple_value left old.state) (simple_value right old.state) old cost mid now → Gives (Err why) node old cost new now
-both_stop node making left right begins old mid new cost now why both = by why (simple_value left old.state) refl (simple_value right old.state) refl both
-  where
-    stays : (frames : List machine.Frame) (calls : ℕ) → Reaches (evaluating node frames calls old.state cost) (evaluating node frames calls old.state cost)
-    stays frames calls = reaches_itself (evaluating node frames calls old.state cost)
-
-    more : most_units < cost + 3 → most_units < cost + 1 + 1 + 1
-    more spent = omega (arith, spent)
-
-    by : (why : LuaError) (l : Option LuaValue) → simple_value left old.state ≡ l → (r : Option LuaValue) → simple_value right old.state ≡ r → PutsBoth (Err why) l r old cost mid now → Gives (Err why) node old cost new now
-    by e.NoMemory l left_is r right_is puts = λ frames calls. (evaluating node frames calls old.state cost, stays frames calls, tt)
-    by e.Budget None left_is r right_is puts = absurd puts
-    by e.Budget (Some a) left_is None right_is puts = absurd puts
-    by e.Budget (Some a) left_is (Some b) right_is puts = λ frames calls. (
-      back (gives b old.state) (Part making (a ∷ []) none ∷ frames) calls (cost + 1 + 1 + 1),
-      at_last node making left right begins frames calls old.state cost a b left_is right_is,
-      more puts,
-    )
-    by (e.TypeFault line) l left_is r right_is puts = absurd puts
-    by (e.UnknownName line) l left_is r right_is puts = absurd puts
-    by (e.Inexact line) l left_is r right_is puts = absurd puts
-    by (e.OutOfRange line) l left_is r right_is puts = absurd puts
-    by (e.LongString line) l left_is r right_is puts = absurd puts
-    by (e.TooDeepCalls line) l left_is r right_is puts = absurd puts
+pub passed_one : (making : machine.Making) (values : List LuaValue) (part : Node) (others : Nodes) (frames : List machine.Frame) (calls : ℕ) (state after : State) (cost now : ℕ) (value : LuaValue) → PartGiven part state cost value after now →
+    Reaches (begun making values (part and others) frames calls state cost) (begun making (values ++ value ∷ []) others frames calls after now)
+passed_one making values part others frames calls state after cost now value given = reaches_through (given (Part making values others ∷ frames) calls) (resumed_part making values others frames calls after now value)
 
 -- ---- as a part
 
@@ -196,7 +145,7 @@ frames_without frames count store = frames_of frames (waits_in (without count st
 abbrev pub parts_left : machine.Making → ℕ → Nodes → List Frame → ℕ → Store → ℕ → Turned
 parts_left making count others frames calls store cost = begun making (parts count store) others (frames_without frames count store) calls store.state cost
 
-pub part_given : (making : machine.Making) (count : ℕ) (node : Node) (others : Nodes) (frames : List Frame) (calls : ℕ) (old new : Store) (cost now : ℕ) → Gives (Ok true) node old cost new now →
+pub part_given : (making : machine.Making) (count : ℕ) (node : Node) (others : Nodes) (frames : List Frame) (calls : ℕ) (old new : Store) (cost now : ℕ) → Gives node old cost new now →
     Reaches (parts_left making count (node and others) frames calls old cost) (parts_left making (count + 1) others frames calls new now)
 part_given making count node others frames calls old new cost now (value, state, is, reaches) =
     let from = parts_left making count (node and others) frames calls old cost in
@@ -210,13 +159,8 @@ part_given making count node others frames calls old new cost now (value, state,
     subst (λ s. Reaches from (parts_left making (count + 1) others frames calls s now)) (sym is) (subst (λ t. Reaches from t) same reached)
 
 -- where turns were stopped in it
-pub part_stopped : (making : machine.Making) (count : ℕ) (node : Node) (others : Nodes) (frames : List Frame) (calls : ℕ) (old new : Store) (cost : ℕ) (why : LuaError) (now : held.Machine) →
-    Gives (Err why) node old cost new now.units → Comes (Err why) now (parts_left making count (node and others) frames calls old cost)
-part_stopped making count node others frames calls old new cost why now stops =
+pub part_stopped : (making : machine.Making) (count : ℕ) (node : Node) (others : Nodes) (frames : List Frame) (calls : ℕ) (old : Store) (cost : ℕ) (why : LuaError) (now : held.Machine) →
+    IsStopped why node old cost now.units → Comes (Err why) now (parts_left making count (node and others) frames calls old cost)
+part_stopped making count node others frames calls old cost why now stops =
     let stop = stops (Part making (parts count old) others ∷ frames_without frames count old) calls in
     record { to = stop.0; reaches = stop.1; turns = stop.2 }
-
--- and where nothing was done
-pub part_stays : (making : machine.Making) (count : ℕ) (nodes : Nodes) (frames : List Frame) (calls : ℕ) (old new : Store) (cost now : ℕ) → (new ≡ old) × (now ≡ cost) →
-    parts_left making count nodes frames calls old cost ≡ parts_left making count nodes frames calls new now
-part_stays making count nodes frames calls old new cost now same = ap (λ s. parts_left making count nodes frames calls s cost) (sym same.0) ∙ ap (parts_left making count nodes frames calls new) (sym same.1)

@@ -7,5 +7,6 @@ pub mod Frames
 pub mod Machines
 pub mod Turns
 pub mod Simple
+pub mod Values
 pub mod Steps
 pub mod Assignments

@@ -32,9 +32,9 @@ impl<'a> Machine<'a> {
     ) -> Result<Control<'a>, LuaError>
         ensures { Comes result self.new (begun (making_of making.entry) [] (node_of first.now and nodes_in others.entry) (waiting self.old) self.old.calls (state_in self.old) self.old.units) }
     {
-        match self.take_part(alloc, 0, first) {
-            Ok(Some(more)) => self.go_on(alloc, making, more, others),
-            Ok(None) => self.wait_for(making, 0, first, others),
+        match self.take_part(alloc, making, 0, first, others) {
+            Ok(None) => self.go_on(alloc, making, 1, others),
+            Ok(Some(control)) => Ok(control),
             Err(why) => Err(why),
         }
     }

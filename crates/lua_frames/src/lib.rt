@@ -50,6 +50,7 @@ mod statements;
 mod storing;
 mod turns;
 mod units;
+mod values;
 mod ways;
 
 pub use control::Control;

@@ -1,5 +1,5 @@
 //! What becomes of the values of parts.
-ghost use Rattle.std.specs.Prelude.{◌≡◌, map};
+ghost use Rattle.std.specs.Prelude.{◌≡◌, ◌+◌, IfOk, map};
 ghost use Rattle.lua_machine.specs.Tree.{node_of, nodes, none, ◌and◌};
 ghost use Rattle.lua_machine.specs.Library.{math_result, table_result};
 ghost use Rattle.lua_machine.specs.Turn.{back, begun, left, made};
@@ -12,13 +12,25 @@ ghost use Rattle.lua_operations.specs.Functions.{math_in, table_in};
 ghost use Rattle.lua_frames.specs.Turns.{Comes, Turns};
 
 use crate::control::Control;
-use crate::frame::{Frame, Making, push_frame};
+use crate::frame::Making;
 use crate::machine::Machine;
 use crate::parts::Parts;
 use lua_machine::LuaError;
 use lua_operations::{MathFunction, TableFunction};
 use lua_tree::{BinaryOp, Expr, UnaryOp};
 use std::alloc::Global;
+use tis_base::NoMemory;
+
+// One more.
+#[inline(always)]
+fn one_more(count: usize) -> Result<usize, NoMemory>
+    ensures { IfOk result (λ n. n ≡ count + 1) }
+{
+    match count.checked_add(1) {
+        Some(more) => Ok(more),
+        None => Err(NoMemory),
+    }
+}
 
 impl<'a> Machine<'a> {
     // An index, whose parts are there.
@@ -160,22 +172,8 @@ impl<'a> Machine<'a> {
         }
     }
 
-    // Begins a part that isn't simple, where so many values are there, and these parts are behind it.
-    #[inline(always)]
-    pub(crate) fn wait_for(
-        &mut self,
-        making: Making<'a>,
-        count: usize,
-        next: &'a Expr,
-        others: Parts<'a>,
-    ) -> Result<Control<'a>, LuaError>
-        ensures { Turns result self.new (begun (making_of making.entry) (parts count (store_in self.old)) (node_of next.now and nodes_in others.entry) (frames_with self.old (without count (store_in self.old))) self.old.calls (state_in self.old) self.old.units) }
-    {
-        push_frame(&mut self.frames, Frame::Part(making, count, others))?;
-        Ok(Control::Evaluate(next))
-    }
-
-    // The parts that are left of several; those that are simple are taken one after the other.
+    // The parts that are left of several, one after the other.
+    #[tactic(auto, using(crate::proofs::Reaching::at_once))]
     fn go_on_with_several(
         &mut self,
         alloc: Global,
@@ -188,9 +186,10 @@ impl<'a> Machine<'a> {
         let mut left = all;
         let mut count = start;
         'parts: while let Some((next, others)) = left.split_first() {
-            match self.take_part(alloc, count, next) {
-                Ok(Some(more)) => count = more,
-                Ok(None) => return self.wait_for(making, count, next, Parts::Several(others)),
+            let more = one_more(count)?;
+            match self.take_part(alloc, making, count, next, Parts::Several(others)) {
+                Ok(None) => count = more,
+                Ok(Some(control)) => return Ok(control),
                 Err(why) => return Err(why),
             }
             left = others;
@@ -199,6 +198,7 @@ impl<'a> Machine<'a> {
     }
 
     // The last part, where so many values are there.
+    #[tactic(auto, using(crate::proofs::Reaching::at_once))]
     fn go_on_with_last(
         &mut self,
         alloc: Global,
@@ -208,14 +208,16 @@ impl<'a> Machine<'a> {
     ) -> Result<Control<'a>, LuaError>
         ensures { Comes result self.new (begun (making_of making.entry) (parts count (store_in self.old)) (node_of last.now and none) (frames_with self.old (without count (store_in self.old))) self.old.calls (state_in self.old) self.old.units) }
     {
-        match self.take_part(alloc, count, last) {
-            Ok(Some(more)) => self.make(alloc, making, more),
-            Ok(None) => self.wait_for(making, count, last, Parts::Done),
+        let more = one_more(count)?;
+        match self.take_part(alloc, making, count, last, Parts::Done) {
+            Ok(None) => self.make(alloc, making, more),
+            Ok(Some(control)) => Ok(control),
             Err(why) => Err(why),
         }
     }
 
     // The last two parts, where so many values are there.
+    #[tactic(auto, using(crate::proofs::Reaching::at_once))]
     fn go_on_with_two(
         &mut self,
         alloc: Global,
@@ -226,9 +228,10 @@ impl<'a> Machine<'a> {
     ) -> Result<Control<'a>, LuaError>
         ensures { Comes result self.new (begun (making_of making.entry) (parts count (store_in self.old)) (node_of next.now and node_of last.now and none) (frames_with self.old (without count (store_in self.old))) self.old.calls (state_in self.old) self.old.units) }
     {
-        match self.take_part(alloc, count, next) {
-            Ok(Some(more)) => self.go_on_with_last(alloc, making, more, last),
-            Ok(None) => self.wait_for(making, count, next, Parts::One(last)),
+        let more = one_more(count)?;
+        match self.take_part(alloc, making, count, next, Parts::One(last)) {
+            Ok(None) => self.go_on_with_last(alloc, making, more, last),
+            Ok(Some(control)) => Ok(control),
             Err(why) => Err(why),
         }
     }

@@ -1,29 +1,15 @@
-//! How expressions that have their value where they stand are taken, and operations on them.
-ghost use Rattle.std.specs.Prelude.{◌≡◌, ◌+◌, IfOk};
-ghost use Rattle.lua_machine.specs.Tree as t;
+//! How expressions are taken that have no parts, call nothing and have no fault.
 ghost use Rattle.lua_machine.specs.Tree.{node_of};
 ghost use Rattle.lua_state.specs.Held.{store_of};
-ghost use Rattle.lua_frames.specs.Simple.{Gives, Passes, Pushes, Puts, PutsBoth, simple_value};
+ghost use Rattle.lua_frames.specs.Simple.{Pushes, Puts, Takes, simple_value};
 
-use crate::expressions::{is_logical, numeral};
-use crate::machine::Machine;
+use crate::expressions::numeral;
 use crate::units::Units;
 use lua_machine::LuaError;
 use lua_state::LuaState;
-use lua_tree::{BinaryOp, Expr};
+use lua_tree::Expr;
 use std::alloc::Global;
 use tis_base::NoMemory;
-
-// One more.
-#[inline(always)]
-fn one_more(count: usize) -> Result<usize, NoMemory>
-    ensures { IfOk result (λ n. n ≡ count + 1) }
-{
-    match count.checked_add(1) {
-        Some(more) => Ok(more),
-        None => Err(NoMemory),
-    }
-}
 
 // Puts the value of an expression that is a numeral, a name, nil or a truth value.
 #[inline(always)]
@@ -56,9 +42,9 @@ fn push_simple(state: &mut LuaState, alloc: Global, expr: &Expr) -> Result<bool,
     }
 }
 
-// Takes such an expression: its unit is paid too.
+// Puts it, and pays its unit.
 #[inline(always)]
-fn take_simple(
+fn put_simple(
     state: &mut LuaState,
     units: &mut Units,
     alloc: Global,
@@ -76,122 +62,15 @@ fn take_simple(
     }
 }
 
-// Puts the values of two parts where both are simple, and pays for them and for what they are parts of.
-fn take_both(
-    state: &mut LuaState,
-    units: &mut Units,
-    alloc: Global,
-    left: &Expr,
-    right: &Expr,
-) -> Result<bool, LuaError>
-    ensures { PutsBoth result (simple_value (node_of left.now) (store_of state.old).state) (simple_value (node_of right.now) (store_of state.old).state) (store_of state.old) units.old (store_of state.new) units.new }
-{
-    match push_simple(state, alloc, left) {
-        Ok(true) => match push_simple(state, alloc, right) {
-            Ok(true) => match units.pay_all(3) {
-                Ok(()) => Ok(true),
-                Err(why) => Err(why),
-            },
-            Ok(false) => {
-                state.pop();
-                Ok(false)
-            }
-            Err(_) => Err(LuaError::NoMemory),
-        },
-        Ok(false) => Ok(false),
-        Err(_) => Err(LuaError::NoMemory),
-    }
-}
-
-// Takes an operator whose sides are simple; `and` and `or` don't evaluate both.
-fn take_binary(
-    state: &mut LuaState,
-    units: &mut Units,
-    alloc: Global,
-    op: BinaryOp,
-    left: &Expr,
-    right: &Expr,
-    line: usize,
-) -> Result<bool, LuaError>
-    ensures { Gives result (t.Binary op (node_of left.now) (node_of right.now) line) (store_of state.old) units.old (store_of state.new) units.new }
-{
-    if is_logical(op) {
-        return Ok(false);
-    }
-    match take_both(state, units, alloc, left, right) {
-        Ok(true) => match state.binary(alloc, 2, op, line) {
-            Ok(()) => Ok(true),
-            Err(why) => Err(why),
-        },
-        Ok(false) => Ok(false),
-        Err(why) => Err(why),
-    }
-}
-
-// Takes an index whose parts are simple.
-fn take_index(
-    state: &mut LuaState,
-    units: &mut Units,
-    alloc: Global,
-    table: &Expr,
-    key: &Expr,
-    line: usize,
-) -> Result<bool, LuaError>
-    ensures { Gives result (t.Index (node_of table.now) (node_of key.now) line) (store_of state.old) units.old (store_of state.new) units.new }
-{
-    match take_both(state, units, alloc, table, key) {
-        Ok(true) => match state.index(2, line) {
-            Ok(()) => Ok(true),
-            Err(why) => Err(why),
-        },
-        Ok(false) => Ok(false),
-        Err(why) => Err(why),
-    }
-}
-
-// Takes an expression that is simple, or an operation on simple ones.
+/// Takes the turns of such an expression; of any other none.
 #[inline(always)]
-fn take(
+pub(crate) fn take_simple(
     state: &mut LuaState,
     units: &mut Units,
     alloc: Global,
     expr: &Expr,
 ) -> Result<bool, LuaError>
-    ensures { Gives result (node_of expr.now) (store_of state.old) units.old (store_of state.new) units.new }
+    ensures { Takes result (node_of expr.now) (store_of state.old) units.old (store_of state.new) units.new }
 {
-    match expr {
-        Expr::Binary {
-            op,
-            left,
-            right,
-            line,
-        } => take_binary(state, units, alloc, *op, left.get(), right.get(), *line),
-        Expr::Index { table, key, line } => {
-            take_index(state, units, alloc, table.get(), key.get(), *line)
-        }
-        _ => take_simple(state, units, alloc, expr),
-    }
-}
-
-impl<'a> Machine<'a> {
-    /// Takes a part that has its value where it stands, behind so many values, and tells how many there are then. Any other part is
-    /// left to a turn of its own.
-    #[inline(always)]
-    pub(crate) fn take_part(
-        &mut self,
-        alloc: Global,
-        count: usize,
-        part: &Expr,
-    ) -> Result<Option<usize>, LuaError>
-        ensures { Passes result count (node_of part.now) self.old self.new }
-    {
-        match one_more(count) {
-            Ok(more) => match take(&mut self.state, &mut self.units, alloc, part) {
-                Ok(true) => Ok(Some(more)),
-                Ok(false) => Ok(None),
-                Err(why) => Err(why),
-            },
-            Err(_) => Err(LuaError::NoMemory),
-        }
-    }
+    put_simple(state, units, alloc, expr)
 }

@@ -2,8 +2,8 @@ use Rattle.std.proofs.Common.{sym, subst}
 use Rattle.lua_frames.specs.declared.parts.Parts.{Parts}
 use Rattle.lua_frames.specs.Frames.{making_of}
 use Rattle.lua_frames.specs.Parts.{nodes_in}
-use Rattle.lua_frames.specs.Simple.{parts_left}
 use Rattle.lua_frames.specs.Turns.{Comes}
+use Rattle.lua_frames.specs.Values.{parts_left}
 use Rattle.lua_frames.proofs.Reaching.{at_once}
 use Rattle.lua_frames.proofs.machine.Machine.go_on.Goals as goal
 
