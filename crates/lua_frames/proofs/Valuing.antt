@@ -1,6 +1,5 @@
 -- Expressions that are evaluated where they stand.
-use Rattle.std.proofs.Common.{◌≡◌, ◌∙◌, ℕ, ◌+◌, ◌<◌, List, [], ◌∷◌, Option, Some, None, refl, sym, ap, subst, reverse, Result, Ok, Err, arith}
-use Rattle.lua_machine.specs.Answer.{most_units}
+use Rattle.std.proofs.Common.{◌≡◌, ◌∙◌, ℕ, ◌+◌, List, [], ◌∷◌, Option, Some, None, sym, ap, subst, reverse, Result, Ok, Err}
 use Rattle.lua_machine.specs.Machine as machine
 use Rattle.lua_machine.specs.Machine.{Turned}
 use Rattle.lua_machine.specs.State.{State, Done, gives}
@@ -8,17 +7,16 @@ use Rattle.lua_machine.specs.Tree.{ItemNode, Node, Nodes, none, ◌and◌}
 use Rattle.lua_machine.specs.Turn.{back, begun, evaluating, expression_begun, made}
 use Rattle.lua_machine.specs.Value.{LuaValue}
 use Rattle.lua_machine.specs.declared.error.LuaError.{LuaError}
-use Rattle.lua_machine.specs.declared.error.LuaError.TheVariants as e
 use Rattle.lua_state.specs.Held.{store_of}
 use Rattle.lua_state.specs.declared.state.LuaState.{LuaState}
 use Rattle.lua_state.specs.Store.{Refuses, Store, in_state, parts, pushed, with_done, without}
 use Rattle.lua_frames.specs.declared.control.Control.{Control}
 use Rattle.lua_frames.specs.declared.machine.Machine.{Machine}
 use Rattle.lua_frames.specs.Machines.{store_in, state_in, waiting}
-use Rattle.lua_frames.specs.Simple.{Gives, IsStopped}
+use Rattle.lua_frames.specs.Simple.{IsStopped}
 use Rattle.lua_frames.specs.Turns.{Comes, Reaches}
 use Rattle.lua_frames.specs.Units.{Spends}
-use Rattle.lua_frames.specs.Values.{IsGathered, IsGiven, Leads, Passes, Stands, TakesOne, TakesTwo, parts_left}
+use Rattle.lua_frames.specs.Values.{IsGathered, IsGiven, Leads, Passes, TakesOne, TakesTwo, parts_left}
 use Rattle.lua_frames.proofs.Reaching.{comes_behind, reaches_itself, reaches_through}
 use Rattle.lua_frames.proofs.Taking as taking
 use Rattle.lua_frames.proofs.Taking.{ComesToMake, Makes, begun_by, made_gives, made_stops, part_given, part_stopped, passed_one}
@@ -117,8 +115,8 @@ pub one_stops : (node : Node) (making : machine.Making) (part : Node) (done : Li
     Comes (Err why) (record mid { state = state }) (evaluating node (waiting old) old.calls (state_in old) old.units)
 one_stops node making part done begins makes old mid state why (stands, a, after, is, gathered) refuses =
     let stop =
-        made_stops node making done makes (a ∷ []) (store_in old) after old.units mid.units why (comes_to_make node making (part and none) begins (a ∷ []) after old mid gathered)
-            (subst (λ (s : Store). Refuses why (with_done (done (parts 1 s) s.state) (without 1 s))) is refuses) (waiting old) old.calls
+    made_stops node making done makes (a ∷ []) (store_in old) after old.units mid.units why (comes_to_make node making (part and none) begins (a ∷ []) after old mid gathered)
+    (subst (λ (s : Store). Refuses why (with_done (done (parts 1 s) s.state) (without 1 s))) is refuses) (waiting old) old.calls
     in
     record { to = stop.0; reaches = stop.1; turns = stop.2 }
 
@@ -135,7 +133,7 @@ pub two_stop : (node : Node) (making : machine.Making) (left right : Node) (done
     Comes (Err why) (record mid { state = state }) (evaluating node (waiting old) old.calls (state_in old) old.units)
 two_stop node making left right done begins makes old mid state why (stands, a, b, after, is, gathered) refuses =
     let stop =
-        made_stops node making done makes (a ∷ b ∷ []) (store_in old) after old.units mid.units why (comes_to_make node making (left and right and none) begins (a ∷ b ∷ []) after old mid gathered)
-            (subst (λ (s : Store). Refuses why (with_done (done (parts 2 s) s.state) (without 2 s))) is refuses) (waiting old) old.calls
+    made_stops node making done makes (a ∷ b ∷ []) (store_in old) after old.units mid.units why (comes_to_make node making (left and right and none) begins (a ∷ b ∷ []) after old mid gathered)
+    (subst (λ (s : Store). Refuses why (with_done (done (parts 2 s) s.state) (without 2 s))) is refuses) (waiting old) old.calls
     in
     record { to = stop.0; reaches = stop.1; turns = stop.2 }

@@ -27,7 +27,9 @@
 //! takes one look-up, however many functions there are.
 //!
 //! A part that is a numeral, a name, nil or a truth value, or an operator or an index of two such, waits for nothing: its turns are taken where it would be
-//! begun (`simple.rt`), with no frame. Of several parts those are taken one after the other, up to the first that is none. No other turns are taken together.
+//! begun (`simple.rt`), with no frame. An operator with other sides, but for `and` and `or`, and such an index are evaluated where they stand too, up to a depth of sixteen (`values.rt`): the
+//! frame of a part is there while an operation in it is evaluated, and goes when its value is there. What lies deeper, and each call, is left to turns of its own, so no text makes the
+//! program's stack grow. Of several parts one is taken after the other, up to the first whose value isn't there. No other turns are taken together.
 #![tactic(auto)]
 
 mod beginning;

@@ -12,7 +12,7 @@ use crate::expressions::is_logical;
 use crate::frame::{Frame, Making, push_frame};
 use crate::machine::Machine;
 use crate::parts::Parts;
-use crate::simple::take_simple;
+use crate::simple::{take, take_simple};
 use lua_machine::LuaError;
 use lua_tree::{BinaryOp, Expr, UnaryOp};
 use std::alloc::Global;
@@ -22,7 +22,7 @@ impl<'a> Machine<'a> {
     #[cycle(values)]
     #[inline(never)]
     #[tactic(auto, using(crate::proofs::Reaching::at_once))]
-    fn inside(
+    fn deeper(
         &mut self,
         alloc: Global,
         depth: u32,
@@ -60,7 +60,7 @@ impl<'a> Machine<'a> {
     {
         match take_simple(&mut self.state, &mut self.units, alloc, part) {
             Ok(true) => Ok(None),
-            Ok(false) => self.inside(alloc, depth, making, count, part, others),
+            Ok(false) => self.deeper(alloc, depth, making, count, part, others),
             Err(why) => Err(why),
         }
     }
@@ -226,7 +226,27 @@ impl<'a> Machine<'a> {
         }
     }
 
+    // Evaluates a part behind so many values.
+    #[inline(always)]
+    fn pass_part(
+        &mut self,
+        alloc: Global,
+        making: Making<'a>,
+        count: usize,
+        part: &'a Expr,
+        others: Parts<'a>,
+    ) -> Result<Option<Control<'a>>, LuaError>
+        ensures { Passes result (making_of making.entry) count (node_of part.now) (nodes_in others.entry) self.old self.new }
+    {
+        match take(&mut self.state, &mut self.units, alloc, part) {
+            Ok(true) => Ok(None),
+            Ok(false) => self.deeper(alloc, 16, making, count, part, others),
+            Err(why) => Err(why),
+        }
+    }
+
     /// Evaluates a part behind so many values. Where its value isn't there, a frame waits for it.
+    #[inline(always)]
     pub(crate) fn take_part(
         &mut self,
         alloc: Global,
@@ -238,6 +258,6 @@ impl<'a> Machine<'a> {
         ensures passes { Passes result (making_of making.entry) count (node_of part.now) (nodes_in others.entry) self.old self.new }
         ensures leads { Leads result (making_of making.entry) count (node_of part.now) (nodes_in others.entry) self.old self.new }
     {
-        self.pass(alloc, 16, making, count, part, others)
+        self.pass_part(alloc, making, count, part, others)
     }
 }

@@ -1,4 +1,4 @@
-use Rattle.std.proofs.Common.{◌∙◌, refl, sym, ap, subst, Ok, Err, List, Option, None, Result}
+use Rattle.std.proofs.Common.{refl, ap, Ok, Err, List}
 use Rattle.lua_machine.specs.Machine as machine
 use Rattle.lua_machine.specs.State.{State}
 use Rattle.lua_machine.specs.Tree as tree
@@ -9,7 +9,6 @@ use Rattle.lua_machine.specs.Yields.{binary_result, indexed, unary_result}
 use Rattle.lua_frames.specs.Frames.{making_of}
 use Rattle.lua_frames.specs.Machines.{state_in, waiting}
 use Rattle.lua_frames.specs.Parts.{nodes_in}
-use Rattle.lua_frames.proofs.Reaching.{at_once}
 use Rattle.lua_frames.proofs.Taking.{Makes}
 use Rattle.lua_frames.proofs.Valuing.{Begins, begun_comes, one_evaluates, one_paid, one_stops, one_takes, stopped_in, two_evaluate, two_paid, two_stop, two_take, unpaid}
 use Rattle.lua_frames.proofs.machine.Machine.+values.Goals as goal
