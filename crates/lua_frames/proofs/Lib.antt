@@ -6,4 +6,9 @@ pub mod Parted
 pub mod Assigning
 pub mod Reaching
 pub mod Taking
+pub mod Arguments
 pub mod Valuing
+pub mod Placing
+pub mod Hanging
+pub mod Execution
+pub mod Rounds

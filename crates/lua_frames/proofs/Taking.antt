@@ -1,6 +1,5 @@
 -- Parts that are taken where they stand.
-use Rattle.std.proofs.Common.{◌≡◌, ◌∙◌, ℕ, ◌+◌, ◌<◌, List, [], ◌∷◌, ◌++◌, Bool, true, false, Option, Some, None, refl, sym, ap, subst, Result, Ok, Err, arith}
-use Rattle.lua_machine.specs.Answer.{most_units}
+use Rattle.std.proofs.Common.{◌≡◌, ◌∙◌, ℕ, ◌+◌, List, [], ◌∷◌, ◌++◌, Bool, true, false, Option, Some, None, refl, sym, ap, subst, Result, Ok, Err}
 use Rattle.lua_machine.specs.Functions.{Function}
 use Rattle.lua_machine.specs.Machine as machine
 use Rattle.lua_machine.specs.Machine.{Turned, Part}
@@ -13,10 +12,9 @@ use Rattle.lua_machine.specs.declared.error.LuaError.{LuaError}
 use Rattle.lua_machine.specs.declared.error.LuaError.TheVariants as e
 use Rattle.lua_state.specs.Store.{Refuses, Store, in_state, parts, pushed, with_done, without}
 use Rattle.lua_frames.specs.declared.frame.Frame.{Frame}
-use Rattle.lua_frames.specs.declared.machine.Machine as held
 use Rattle.lua_frames.specs.Frames.{frames_of, waits_in}
-use Rattle.lua_frames.specs.Simple.{Gives, IsStopped, Puts, PutsBoth, Takes, simple_value}
-use Rattle.lua_frames.specs.Turns.{Comes, Reaches, Stops}
+use Rattle.lua_frames.specs.Simple.{Gives, IsStopped, Puts, Takes, simple_value}
+use Rattle.lua_frames.specs.Turns.{Reaches}
 use Rattle.lua_frames.proofs.Backs.{stopped_back}
 use Rattle.lua_frames.proofs.Parted.{one_part_more, without_one_more}
 use Rattle.lua_frames.proofs.Reaching.{none_after, reaches_itself, reaches_through}
@@ -135,104 +133,6 @@ pub passed_one : (making : machine.Making) (values : List LuaValue) (part : Node
     Reaches (begun making values (part and others) frames calls state cost) (begun making (values ++ value ∷ []) others frames calls after now)
 passed_one making values part others frames calls state after cost now value given = reaches_through (given (Part making values others ∷ frames) calls) (resumed_part making values others frames calls after now value)
 
--- ---- an operation on two simple parts
-
--- how it is begun
-abbrev pub Begins : Node → machine.Making → Node → Node → Type 0
-Begins node making left right =
-    (chunk : List ItemNode) (frames : List machine.Frame) (calls : ℕ) (state : State) (cost : ℕ) → expression_begun chunk node frames calls state cost ≡ begun making [] (left and right and none) frames calls state (cost + 1)
-
-begun_two : (node : Node) (making : machine.Making) (left right : Node) → Begins node making left right → (frames : List machine.Frame) (calls : ℕ) (state : State) (cost : ℕ) →
-    Reaches (evaluating node frames calls state cost) (begun making [] (left and right and none) frames calls state (cost + 1))
-begun_two node making left right begins frames calls state cost = record {
-  turns = 1;
-  after = λ chunk main. none_after chunk main (expression_begun chunk node frames calls state cost) ∙ begins chunk frames calls state cost;
-}
-
-at_last : (node : Node) (making : machine.Making) (left right : Node) → Begins node making left right → (frames : List machine.Frame) (calls : ℕ) (state : State) (cost : ℕ) (a b : LuaValue) →
-    simple_value left state ≡ Some a → simple_value right state ≡ Some b → Reaches (evaluating node frames calls state cost) (back (gives b state) (Part making (a ∷ []) none ∷ frames) calls (cost + 1 + 1 + 1))
-at_last node making left right begins frames calls state cost a b left_is right_is =
-    reaches_through (begun_two node making left right begins frames calls state cost)
-    (reaches_through (one_turn left (Part making [] (right and none) ∷ frames) calls state (cost + 1) a left_is)
-    (reaches_through (resumed_part making [] (right and none) frames calls state (cost + 1 + 1) a)
-    (one_turn right (Part making (a ∷ []) none ∷ frames) calls state (cost + 1 + 1) b right_is)))
-
-at_done : (node : Node) (making : machine.Making) (left right : Node) (done : List LuaValue → State → Done LuaValue) → Begins node making left right → Makes making done →
-    (frames : List machine.Frame) (calls : ℕ) (state : State) (cost : ℕ) (a b : LuaValue) → simple_value left state ≡ Some a → simple_value right state ≡ Some b →
-    Reaches (evaluating node frames calls state cost) (back (done (a ∷ b ∷ []) state) frames calls (cost + 3))
-at_done node making left right done begins makes frames calls state cost a b left_is right_is =
-    let three : cost + 1 + 1 + 1 ≡ cost + 3 = omega arith in
-    subst (λ n. Reaches (evaluating node frames calls state cost) (back (done (a ∷ b ∷ []) state) frames calls n)) three
-    (subst (λ t. Reaches (evaluating node frames calls state cost) t) (makes (a ∷ b ∷ []) frames calls state (cost + 1 + 1 + 1))
-    (reaches_through (at_last node making left right begins frames calls state cost a b left_is right_is) (resumed_part making (a ∷ []) none frames calls state (cost + 1 + 1 + 1) b)))
-
--- both parts were put, and what is made of them too
-pub both_give : (node : Node) (making : machine.Making) (left right : Node) (done : List LuaValue → State → Done LuaValue) → Begins node making left right → Makes making done → (old mid new : Store) (cost now : ℕ) →
-    PutsBoth (Ok true) (simple_value left old.state) (simple_value right old.state) old cost mid now → with_done (done (parts 2 mid) mid.state) (without 2 mid) ≡ Ok new → Gives node old cost new now
-both_give node making left right done begins makes old mid new cost now both is = by (simple_value left old.state) refl (simple_value right old.state) refl both
-  where
-    given : (a b : LuaValue) → simple_value left old.state ≡ Some a → simple_value right old.state ≡ Some b → (outcome : Result LuaValue Fault) (state : State) → record { outcome = outcome; state = state } ≡ done (a ∷ b ∷ []) old.state →
-        with_done (record { outcome = outcome; state = state }) old ≡ Ok new → now ≡ cost + 3 → Gives node old cost new now
-    given a b left_is right_is (Ok value) state same made_is spent = (
-      value,
-      state,
-      sym (ok_is made_is),
-      λ frames calls. subst (λ n. Reaches (evaluating node frames calls old.state cost) (back (gives value state) frames calls n)) (sym spent)
-          (subst (λ d. Reaches (evaluating node frames calls old.state cost) (back d frames calls (cost + 3))) (sym same) (at_done node making left right done begins makes frames calls old.state cost a b left_is right_is)),
-    )
-    given a b left_is right_is (Err why) state same made_is spent = err_isnt_ok made_is
-
-    by : (l : Option LuaValue) → simple_value left old.state ≡ l → (r : Option LuaValue) → simple_value right old.state ≡ r → PutsBoth (Ok true) l r old cost mid now → Gives node old cost new now
-    by None left_is r right_is puts = absurd puts
-    by (Some a) left_is None right_is puts = absurd puts
-    by (Some a) left_is (Some b) right_is puts =
-        let of = done (a ∷ b ∷ []) old.state in
-        given a b left_is right_is of.outcome of.state refl (subst (λ (s : Store). with_done (done (parts 2 s) s.state) (without 2 s) ≡ Ok new) puts.0 is) puts.1
-
--- both parts were put, and there is a fault in what is made of them
-pub both_fault : (node : Node) (making : machine.Making) (left right : Node) (done : List LuaValue → State → Done LuaValue) → Begins node making left right → Makes making done → (old mid new : Store) (cost now : ℕ) (why : LuaError) →
-    PutsBoth (Ok true) (simple_value left old.state) (simple_value right old.state) old cost mid now → Refuses why (with_done (done (parts 2 mid) mid.state) (without 2 mid)) → IsStopped why node old cost now
-both_fault node making left right done begins makes old mid new cost now why both is = by (simple_value left old.state) refl (simple_value right old.state) refl both
-  where
-    by : (l : Option LuaValue) → simple_value left old.state ≡ l → (r : Option LuaValue) → simple_value right old.state ≡ r → PutsBoth (Ok true) l r old cost mid now → IsStopped why node old cost now
-    by None left_is r right_is puts = absurd puts
-    by (Some a) left_is None right_is puts = absurd puts
-    by (Some a) left_is (Some b) right_is puts =
-        let of = done (a ∷ b ∷ []) old.state in
-        let refuses : Refuses why (with_done of old) = subst (λ (s : Store). Refuses why (with_done (done (parts 2 s) s.state) (without 2 s))) puts.0 is in
-        λ frames calls. (
-          back of frames calls (cost + 3),
-          at_done node making left right done begins makes frames calls old.state cost a b left_is right_is,
-          subst (λ n. Stops why n (back of frames calls (cost + 3))) (sym puts.1) (stopped_back why of.outcome of.state old frames calls (cost + 3) refuses),
-        )
-
--- a unit of theirs couldn't be paid
-pub both_stop : (node : Node) (making : machine.Making) (left right : Node) → Begins node making left right → (old mid new : Store) (cost now : ℕ) (why : LuaError) →
-    PutsBoth (Err why) (simple_value left old.state) (simple_value right old.state) old cost mid now → IsStopped why node old cost now
-both_stop node making left right begins old mid new cost now why both = by why (simple_value left old.state) refl (simple_value right old.state) refl both
-  where
-    stays : (frames : List machine.Frame) (calls : ℕ) → Reaches (evaluating node frames calls old.state cost) (evaluating node frames calls old.state cost)
-    stays frames calls = reaches_itself (evaluating node frames calls old.state cost)
-
-    more : most_units < cost + 3 → most_units < cost + 1 + 1 + 1
-    more spent = omega (arith, spent)
-
-    by : (why : LuaError) (l : Option LuaValue) → simple_value left old.state ≡ l → (r : Option LuaValue) → simple_value right old.state ≡ r → PutsBoth (Err why) l r old cost mid now → IsStopped why node old cost now
-    by e.NoMemory l left_is r right_is puts = λ frames calls. (evaluating node frames calls old.state cost, stays frames calls, tt)
-    by e.Budget None left_is r right_is puts = absurd puts
-    by e.Budget (Some a) left_is None right_is puts = absurd puts
-    by e.Budget (Some a) left_is (Some b) right_is puts = λ frames calls. (
-      back (gives b old.state) (Part making (a ∷ []) none ∷ frames) calls (cost + 1 + 1 + 1),
-      at_last node making left right begins frames calls old.state cost a b left_is right_is,
-      more puts,
-    )
-    by (e.TypeFault line) l left_is r right_is puts = absurd puts
-    by (e.UnknownName line) l left_is r right_is puts = absurd puts
-    by (e.Inexact line) l left_is r right_is puts = absurd puts
-    by (e.OutOfRange line) l left_is r right_is puts = absurd puts
-    by (e.LongString line) l left_is r right_is puts = absurd puts
-    by (e.TooDeepCalls line) l left_is r right_is puts = absurd puts
-
 -- ---- as a part
 
 -- frames that wait without so many values
@@ -255,10 +155,3 @@ part_given making count node others frames calls old new cost now (value, state,
     let same : begun making (parts count old ++ value ∷ []) others (frames_without frames count old) calls state now ≡ parts_left making (count + 1) others frames calls (pushed value put) now =
     ap (λ vs. begun making vs others (frames_without frames count old) calls state now) (sym values) ∙ ap (λ fs. begun making (parts (count + 1) (pushed value put)) others fs calls state now) (sym rest) in
     subst (λ s. Reaches from (parts_left making (count + 1) others frames calls s now)) (sym is) (subst (λ t. Reaches from t) same reached)
-
--- where turns were stopped in it
-pub part_stopped : (making : machine.Making) (count : ℕ) (node : Node) (others : Nodes) (frames : List Frame) (calls : ℕ) (old : Store) (cost : ℕ) (why : LuaError) (now : held.Machine) →
-    IsStopped why node old cost now.units → Comes (Err why) now (parts_left making count (node and others) frames calls old cost)
-part_stopped making count node others frames calls old cost why now stops =
-    let stop = stops (Part making (parts count old) others ∷ frames_without frames count old) calls in
-    record { to = stop.0; reaches = stop.1; turns = stop.2 }

@@ -8,5 +8,8 @@ pub mod Machines
 pub mod Turns
 pub mod Simple
 pub mod Values
+pub mod Standing
+pub mod Executing
+pub mod Rounds
 pub mod Steps
 pub mod Assignments

@@ -1,4 +1,4 @@
--- Expressions that have no parts, call nothing and have no fault, and operations on two such.
+-- Expressions that have no parts, call nothing and have no fault.
 use Rattle.std.specs.Prelude.{◌≡◌, ℕ, ◌+◌, ◌<◌, List, Bool, true, false, Option, Some, None, Result, Ok, Err}
 use Rattle.lua_machine.specs.Answer.{most_units}
 use Rattle.lua_machine.specs.State.{State, gives, value_of}
@@ -37,15 +37,6 @@ Puts (Ok false) value old cost new now = (new ≡ old) × (now ≡ cost)
 Puts (Err e.NoMemory) value old cost new now = Unit {0}
 Puts (Err e.Budget) (Some value) old cost new now = most_units < cost + 1
 Puts (Err why) value old cost new now = ⊥
-
--- the values of two parts were put, and their units and the one of what they are parts of were paid; or nothing was done
-abbrev pub PutsBoth : Result Bool LuaError → Option LuaValue → Option LuaValue → Store → ℕ → Store → ℕ → Type 0
-PutsBoth (Ok true) (Some left) (Some right) old cost new now = (new ≡ pushed right (pushed left old)) × (now ≡ cost + 3)
-PutsBoth (Ok true) left right old cost new now = ⊥
-PutsBoth (Ok false) left right old cost new now = (new ≡ old) × (now ≡ cost)
-PutsBoth (Err e.NoMemory) left right old cost new now = Unit {0}
-PutsBoth (Err e.Budget) (Some left) (Some right) old cost new now = most_units < cost + 3
-PutsBoth (Err why) left right old cost new now = ⊥
 
 -- turns evaluated an expression, whose value was put
 abbrev pub Gives : Node → Store → ℕ → Store → ℕ → Type 0

@@ -9,7 +9,7 @@ ghost use Rattle.lua_frames.specs.Frames.{making_of};
 ghost use Rattle.lua_frames.specs.Machines.{frames_with, state_in, store_in, waiting};
 ghost use Rattle.lua_frames.specs.Parts.{function_in, nodes_in};
 ghost use Rattle.lua_operations.specs.Functions.{math_in, table_in};
-ghost use Rattle.lua_frames.specs.Turns.{Comes, Turns};
+ghost use Rattle.lua_frames.specs.Turns.{Comes};
 
 use crate::control::Control;
 use crate::frame::{Frame, Making, push_frame};
@@ -40,6 +40,7 @@ impl<'a> Machine<'a> {
     }
 
     /// Enters a function with the newest so many values, where one more call may be open.
+    #[tactic(auto, using(crate::proofs::Reaching::at_once))]
     pub(crate) fn enter(
         &mut self,
         alloc: Global,
@@ -47,13 +48,13 @@ impl<'a> Machine<'a> {
         count: usize,
         line: usize,
     ) -> Result<Control<'a>, LuaError>
-        ensures { Turns result self.new (entering (nat_lt self.old.calls most_calls) (function_in function.entry) line (parts count (store_in self.old)) (frames_with self.old (without count (store_in self.old))) self.old.calls (state_in self.old) self.old.units) }
+        ensures { Comes result self.new (entering (nat_lt self.old.calls most_calls) (function_in function.entry) line (parts count (store_in self.old)) (frames_with self.old (without count (store_in self.old))) self.old.calls (state_in self.old) self.old.units) }
     {
         if self.calls < 100 {
             push_frame(&mut self.frames, Frame::Caller(self.calls))?;
             self.state.enter(alloc, function.params, count)?;
             self.calls += 1;
-            self.run(function.body)
+            self.run_here(alloc, function.body.statements.as_slice())
         } else {
             Err(LuaError::TooDeepCalls { line })
         }

@@ -26,16 +26,19 @@
 //! A [`FunctionTable`] has the functions of the chunk by the hashes of their names: it is made once, with an entry for each name, and a call then
 //! takes one look-up, however many functions there are.
 //!
-//! A part that is a numeral, a name, nil or a truth value, or an operator or an index of two such, waits for nothing: its turns are taken where it would be
-//! begun (`simple.rt`), with no frame. An operator with other sides, but for `and` and `or`, and such an index are evaluated where they stand too, up to a depth of sixteen (`values.rt`): the
-//! frame of a part is there while an operation in it is evaluated, and goes when its value is there. What lies deeper, and each call, is left to turns of its own, so no text makes the
-//! program's stack grow. Of several parts one is taken after the other, up to the first whose value isn't there. No other turns are taken together.
+//! Most expressions and statements wait for nothing, and their turns are taken where they stand, with no turn of this machine and no frame. A numeral, a name, nil or a truth value
+//! is put (`simple.rt`); an operator but for `and` and `or`, an index, and a call of `math` evaluate their parts in turn (`values.rt`, `math_values.rt`), up to a depth of sixteen; a
+//! declaration, an assignment, a value that is stored at a key, a `return` with a value and an `if` are executed (`executing.rt`), with blocks in them up to a depth of eight. What lies deeper,
+//! each call of a function of the chunk, and every other kind of node is left to turns, so no text makes the program's stack grow. Where something is left to a turn, the frames
+//! of all that it is a part of become pending on the way out, innermost first, and are put above the others then (`passing.rt`). An answer of these calls is a byte ([`Machine::at`] and
+//! [`Machine::fault`] have the rest), and no more than a store to it and a test are paid for it. A `for` whose body is executed where it stands takes its turns in a loop (`looping.rt`).
 #![tactic(auto)]
 
 mod beginning;
 mod blocks;
 mod control;
 mod entries;
+mod executing;
 mod expressions;
 mod frame;
 mod function_table;
@@ -44,7 +47,10 @@ mod items;
 mod looping;
 mod machine;
 mod making;
+mod math_values;
+mod outcome;
 mod parts;
+mod passing;
 mod quotient;
 mod resuming;
 mod simple;
@@ -52,6 +58,7 @@ mod statements;
 mod storing;
 mod turns;
 mod units;
+mod valued;
 mod values;
 mod ways;
 

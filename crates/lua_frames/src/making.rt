@@ -145,6 +145,7 @@ impl<'a> Machine<'a> {
     }
 
     // The values of all parts are there.
+    #[tactic(auto, using(crate::proofs::Reaching::at_once))]
     #[inline(never)]
     pub(crate) fn make(
         &mut self,
@@ -152,7 +153,7 @@ impl<'a> Machine<'a> {
         making: Making<'a>,
         count: usize,
     ) -> Result<Control<'a>, LuaError>
-        ensures { Turns result self.new (made (making_of making.entry) (parts count (store_in self.old)) (frames_with self.old (without count (store_in self.old))) self.old.calls (state_in self.old) self.old.units) }
+        ensures { Comes result self.new (made (making_of making.entry) (parts count (store_in self.old)) (frames_with self.old (without count (store_in self.old))) self.old.calls (state_in self.old) self.old.units) }
     {
         match making {
             Making::Indexes(line) => self.indexes(count, line),

@@ -109,32 +109,36 @@ impl<'a> Machine<'a> {
     }
 
     // The test of an arm is there.
+    #[tactic(auto, using(crate::proofs::Reaching::at_once))]
     pub(crate) fn arm_test(
         &mut self,
+        alloc: Global,
         way: Way,
         body: &'a LuaBlock,
         others: &'a [Arm],
         otherwise: &'a Option<LuaBlock>,
     ) -> Result<Control<'a>, LuaError>
-        ensures { Turns result self.new (arm_if (is_true (value_in (way_in way (store_in self.old)))) (block_of body.now) (arms_in others.now otherwise.now) (frames_with self.old (beside_way way (store_in self.old))) self.old.calls (state_in self.old) self.old.units) }
+        ensures { Comes result self.new (arm_if (is_true (value_in (way_in way (store_in self.old)))) (block_of body.now) (arms_in others.now otherwise.now) (frames_with self.old (beside_way way (store_in self.old))) self.old.calls (state_in self.old) self.old.units) }
     {
         take_back(&mut self.state, way)?;
         if self.state.take_truth() {
-            self.run_inner(body)
+            self.run_inner(alloc, body)
         } else {
-            self.choose(others, otherwise)
+            self.choose(alloc, others, otherwise)
         }
     }
 
     // The test of a `while` is there.
+    #[tactic(auto, using(crate::proofs::Reaching::at_once))]
     #[inline(never)]
     pub(crate) fn while_test(
         &mut self,
+        alloc: Global,
         way: Way,
         test: &'a Expr,
         body: &'a LuaBlock,
     ) -> Result<Control<'a>, LuaError>
-        ensures { Turns result self.new (while_if (is_true (value_in (way_in way (store_in self.old)))) (node_of test.now) (block_of body.now) (frames_with self.old (beside_way way (store_in self.old))) self.old.calls (state_in self.old) self.old.units) }
+        ensures { Comes result self.new (while_if (is_true (value_in (way_in way (store_in self.old)))) (node_of test.now) (block_of body.now) (frames_with self.old (beside_way way (store_in self.old))) self.old.calls (state_in self.old) self.old.units) }
     {
         take_back(&mut self.state, way)?;
         if self.state.take_truth() {
@@ -143,22 +147,24 @@ impl<'a> Machine<'a> {
                 &mut self.frames,
                 Frame::WhileBody(self.state.locals(), test, body),
             )?;
-            self.run(body)
+            self.run_here(alloc, body.statements.as_slice())
         } else {
             Ok(Control::Goes)
         }
     }
 
     // The test of a `repeat` is there.
+    #[tactic(auto, using(crate::proofs::Reaching::at_once))]
     #[inline(never)]
     pub(crate) fn repeat_test(
         &mut self,
+        alloc: Global,
         way: Way,
         outer: usize,
         body: &'a LuaBlock,
         test: &'a Expr,
     ) -> Result<Control<'a>, LuaError>
-        ensures { Turns result self.new (until_if (is_true (value_in (way_in way (store_in self.old)))) outer (block_of body.now) (node_of test.now) (frames_with self.old (beside_way way (store_in self.old))) self.old.calls (state_in self.old) self.old.units) }
+        ensures { Comes result self.new (until_if (is_true (value_in (way_in way (store_in self.old)))) outer (block_of body.now) (node_of test.now) (frames_with self.old (beside_way way (store_in self.old))) self.old.calls (state_in self.old) self.old.units) }
     {
         take_back(&mut self.state, way)?;
         let ends = self.state.take_truth();
@@ -166,7 +172,7 @@ impl<'a> Machine<'a> {
         if ends {
             Ok(Control::Goes)
         } else {
-            self.repeat(body, test)
+            self.repeat(alloc, body, test)
         }
     }
 }

@@ -116,12 +116,12 @@ impl<'a> Machine<'a> {
                 push_frame(&mut self.frames, Frame::Drops)?;
                 Ok(Control::Evaluate(call))
             }
-            LuaStatement::If { arms, otherwise } => self.choose(arms.as_slice(), otherwise),
+            LuaStatement::If { arms, otherwise } => self.choose(alloc, arms.as_slice(), otherwise),
             LuaStatement::While { test, body } => {
                 push_frame(&mut self.frames, Frame::WhileTest(test, body))?;
                 Ok(Control::Evaluate(test))
             }
-            LuaStatement::Repeat { body, test } => self.repeat(body, test),
+            LuaStatement::Repeat { body, test } => self.repeat(alloc, body, test),
             LuaStatement::For {
                 name,
                 first,
@@ -136,7 +136,7 @@ impl<'a> Machine<'a> {
                 last,
                 step,
             ),
-            LuaStatement::Do { body } => self.run_inner(body),
+            LuaStatement::Do { body } => self.run_inner(alloc, body),
             LuaStatement::Break => Ok(Control::Breaks),
             LuaStatement::Return { value } => self.give_back(value, cost),
         }

@@ -73,11 +73,11 @@ impl<'a> Machine<'a> {
             Frame::Drops => self.drops(way),
             Frame::ReturnsIt => self.returns_it(way),
             Frame::ArmTest(body, others, otherwise) => {
-                self.arm_test(way, body, others, otherwise)
+                self.arm_test(alloc, way, body, others, otherwise)
             }
-            Frame::WhileTest(test, body) => self.while_test(way, test, body),
-            Frame::RepeatTest(outer, body, test) => self.repeat_test(way, outer, body, test),
-            Frame::Others(others) => self.others(way, others),
+            Frame::WhileTest(test, body) => self.while_test(alloc, way, test, body),
+            Frame::RepeatTest(outer, body, test) => self.repeat_test(alloc, way, outer, body, test),
+            Frame::Others(others) => self.others(alloc, way, others),
             Frame::Inner(outer) => self.inner(way, outer),
             Frame::WhileBody(outer, test, body) => self.while_body(way, outer, test, body),
             Frame::RepeatBody(outer, body, test) => self.repeat_body(way, outer, body, test),
@@ -108,6 +108,7 @@ impl<'a> Machine<'a> {
     }
 
     /// A turn in a call of a function of the chunk.
+    #[tactic(auto, using(crate::proofs::Reaching::at_once))]
     #[inline(always)]
     pub fn turn(
         &mut self,

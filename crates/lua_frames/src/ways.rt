@@ -8,7 +8,7 @@ ghost use Rattle.lua_state.specs.Stacks.{below, top};
 ghost use Rattle.lua_state.specs.Store.{pushed};
 ghost use Rattle.lua_frames.specs.Machines.{frames_with, state_in, store_in};
 ghost use Rattle.lua_frames.specs.Parts.{block_in};
-ghost use Rattle.lua_frames.specs.Turns.{Turns};
+ghost use Rattle.lua_frames.specs.Turns.{Comes, Turns};
 ghost use Rattle.lua_frames.specs.Ways.{beside_way, way_in};
 
 use crate::control::Control;
@@ -42,15 +42,17 @@ pub fn take_back(state: &mut LuaState, way: Way) -> Result<(), NoMemory>
 
 impl<'a> Machine<'a> {
     // A statement ended, and these are behind it.
+    #[tactic(auto, using(crate::proofs::Reaching::at_once))]
     pub(crate) fn others(
         &mut self,
+        alloc: Global,
         way: Way,
         others: &'a [LuaStatement],
     ) -> Result<Control<'a>, LuaError>
-        ensures { Turns result self.new (others_by (way_in way (store_in self.old)) (block_in others.now) (frames_with self.old (beside_way way (store_in self.old))) self.old.calls (state_in self.old) self.old.units) }
+        ensures { Comes result self.new (others_by (way_in way (store_in self.old)) (block_in others.now) (frames_with self.old (beside_way way (store_in self.old))) self.old.calls (state_in self.old) self.old.units) }
     {
         match way {
-            Way::Goes => self.run_all(others),
+            Way::Goes => self.run_here(alloc, others),
             Way::Breaks => Ok(Control::Breaks),
             Way::Returns => Ok(Control::Returns),
         }
